@@ -1,0 +1,20 @@
+-- Every limit of the scope, named once.
+use Prim.Native.Nat.{ℕ}
+
+-- the largest capacity of each set
+abbrev pub plainCapacityLimit : ℕ
+plainCapacityLimit = 16_777_214
+
+abbrev pub robustCapacityLimit : ℕ
+robustCapacityLimit = 4_096
+
+-- thread records that may be lent, and owners that a list may have
+abbrev pub recordsLimit : ℕ
+recordsLimit = 16
+
+abbrev pub ownersLimit : ℕ
+ownersLimit = 8
+
+-- the borrowed count that marks a locked plain set
+abbrev pub lockAcquire : ℕ
+lockAcquire = 0x00ff_ffff

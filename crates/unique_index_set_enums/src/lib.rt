@@ -1,0 +1,108 @@
+// The enums of unique_index_set_enums.rs, the kinds, and every limit of the scope.
+ghost use mathlib.Core.Path.{_≡_};
+ghost use Rattle.unique_index_set_enums.specs.Numbers.{modeRead, modeNumber, stateValue, acquireFailureNumber, creationErrorNumber};
+
+// Four kinds of code, and a record's number as the fifth: mixing two does not compile.
+pub struct Index(pub u32);
+
+pub struct OwnerId(pub u64);
+
+pub struct Tag(pub u16);
+
+pub struct Generation(pub u64);
+
+pub struct RecordNumber(pub u8);
+
+// The largest capacity of each set.
+pub const PLAIN_CAPACITY_LIMIT: u32 = 16_777_214;
+pub const ROBUST_CAPACITY_LIMIT: u32 = 4_096;
+
+// How many thread records may be lent, and how many owners a list may have.
+pub const RECORDS_LIMIT: usize = 16;
+pub const OWNERS_LIMIT: u8 = 8;
+
+// The borrowed count that marks a locked plain set.
+pub const LOCK_ACQUIRE: u32 = 0x00ff_ffff;
+
+// Whether a release that returns the last index locks the set.
+pub enum ReleaseMode {
+    Default,
+    LockIfLastIndex,
+}
+
+pub enum ReleaseState {
+    Unlocked,
+    Locked,
+}
+
+pub enum UniqueIndexSetAcquireFailure {
+    OutOfIndices,
+    IsLocked,
+}
+
+pub enum UniqueIndexCreationError {
+    ProvidedCapacityGreaterThanMaxCapacity,
+    ProvidedCapacityIsZero,
+}
+
+// A lent number read as a mode.
+pub enum ModeRead {
+    Known(ReleaseMode),
+    Unknown,
+}
+
+pub fn read_mode(mode: u8) -> ModeRead
+    ensures { λ r. ⌜ r ≡ modeRead mode ⌝ }
+{
+    if mode == 0 {
+        return ModeRead::Known(ReleaseMode::Default);
+    }
+    if mode == 1 {
+        return ModeRead::Known(ReleaseMode::LockIfLastIndex);
+    }
+    ModeRead::Unknown
+}
+
+impl ReleaseMode {
+    pub fn number(self) -> u8
+        ensures { λ r. ⌜ r ≡ modeNumber self ⌝ }
+    {
+        match self {
+            ReleaseMode::Default => 0,
+            ReleaseMode::LockIfLastIndex => 1,
+        }
+    }
+}
+
+impl ReleaseState {
+    pub fn value(self) -> u32
+        ensures { λ r. ⌜ r ≡ stateValue self ⌝ }
+    {
+        match self {
+            ReleaseState::Unlocked => 0,
+            ReleaseState::Locked => 1,
+        }
+    }
+}
+
+impl UniqueIndexSetAcquireFailure {
+    pub fn number(self) -> u8
+        ensures { λ r. ⌜ r ≡ acquireFailureNumber self ⌝ }
+    {
+        match self {
+            UniqueIndexSetAcquireFailure::OutOfIndices => 1,
+            UniqueIndexSetAcquireFailure::IsLocked => 2,
+        }
+    }
+}
+
+impl UniqueIndexCreationError {
+    pub fn number(self) -> u8
+        ensures { λ r. ⌜ r ≡ creationErrorNumber self ⌝ }
+    {
+        match self {
+            UniqueIndexCreationError::ProvidedCapacityGreaterThanMaxCapacity => 3,
+            UniqueIndexCreationError::ProvidedCapacityIsZero => 4,
+        }
+    }
+}
