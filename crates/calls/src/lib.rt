@@ -7,6 +7,7 @@ use unique_index_set_enums::UniqueIndexSetAcquireFailure;
 ghost use mathlib.Core.Path.{_≡_};
 ghost use Rattle.calls.specs.Numbers.{callRead, answerNumber, answerValue, refusalNumber};
 ghost use Rattle.calls.specs.Order.{verdictOf};
+ghost use Rattle.calls.specs.Reports.{acceptedReport, answeredReport, refusedReport};
 
 pub enum Call {
     Acquire,
@@ -169,6 +170,35 @@ impl Refusal {
             Refusal::OwnerIsEmpty => 5,
             Refusal::IndexOutOfRange => 7,
             Refusal::IndexNotHeld => 8,
+        }
+    }
+}
+
+impl Report {
+    pub fn accepted() -> Self
+        ensures { λ r. ⌜ r ≡ acceptedReport ⌝ }
+    {
+        Report {
+            progress: Progress::Accepted,
+            noted: Noted::Nothing,
+        }
+    }
+
+    pub fn answered(answer: Answer) -> Self
+        ensures { λ r. ⌜ r ≡ answeredReport answer ⌝ }
+    {
+        Report {
+            progress: Progress::Answered(answer),
+            noted: Noted::Nothing,
+        }
+    }
+
+    pub fn refused(why: Refusal) -> Self
+        ensures { λ r. ⌜ r ≡ refusedReport why ⌝ }
+    {
+        Report {
+            progress: Progress::Refused(why),
+            noted: Noted::Nothing,
         }
     }
 }

@@ -1,0 +1,57 @@
+-- The idle record, and when a record may be worked with (refusal 9).
+use Prim.Native.Nat.{ℕ}
+use mathlib.Core.Bool.{Bool, true, false, cond, not}
+use mathlib.Core.List.{List, [], _∷_}
+use lib.Dec.{leb, eqb}
+use Rattle.unique_index_set_enums.specs.declared.OwnerId.{OwnerId}
+use Rattle.unique_index_set_enums.specs.declared.RecordNumber.{RecordNumber}
+use Rattle.unique_index_set_enums.specs.Kinds.{index, owner, generation}
+use Rattle.thread_records.specs.declared.OwnerList.{OwnerList}
+use Rattle.thread_records.specs.declared.Remembered.{Remembered}
+use Rattle.thread_records.specs.declared.Record.{Record}
+
+abbrev nobody : OwnerId
+nobody = owner 0
+
+abbrev pub emptyList : OwnerList
+emptyList = record { count = 0; owners = nobody ∷ nobody ∷ nobody ∷ nobody ∷ nobody ∷ nobody ∷ nobody ∷ nobody ∷ [] }
+
+abbrev pub idleCall : Remembered
+idleCall = record {
+  place = 0;
+  mode = 0;
+  index = index 0;
+  seen = 0;
+  value = 0;
+  owner = owner 0;
+  generation = generation 0;
+  «bump_generation» = generation 0;
+  «count_generation» = generation 0;
+  «count_cell» = index 0;
+  counted = 0;
+  reported = 0;
+  room = 0;
+}
+
+-- what a setup or an answer leaves: all 0, the list beside it
+abbrev pub idleRecord : OwnerList → Record
+idleRecord list = record { dead = false; call = idleCall; list = list }
+
+-- the call of a record goes on, or is over; its list stays
+abbrev pub withCall : Remembered → Record → Record
+withCall call t = record { dead = t .dead; call = call; list = t .list }
+
+abbrev pub markedDead : Record → Record
+markedDead t = record { dead = true; call = t .call; list = t .list }
+
+-- of `records` that are lent there is none of that number, or it is dead
+unfoldable pub notAlive : Record → ℕ → RecordNumber → Bool
+notAlive t records who = cond (leb records (who .0)) true (t .dead)
+
+-- nor is it busy: refusal 9 of a start or a list
+unfoldable pub notIdle : Record → ℕ → RecordNumber → Bool
+notIdle t records who = cond (notAlive t records who) true (not (eqb (t .call .place) 0))
+
+-- nor is it idle: refusal 9 of a step or a drain
+unfoldable pub notCalling : Record → ℕ → RecordNumber → Bool
+notCalling t records who = cond (notAlive t records who) true (eqb (t .call .place) 0)

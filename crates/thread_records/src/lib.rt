@@ -1,0 +1,158 @@
+// The lent thread record: plain numbers and kinds, whatever they are, for both sets.
+use calls::Refusal;
+use calls::Report;
+use calls::Tests;
+use calls::Verdict;
+use unique_index_set_enums::Generation;
+use unique_index_set_enums::Index;
+use unique_index_set_enums::OwnerId;
+use unique_index_set_enums::RECORDS_LIMIT;
+use unique_index_set_enums::RecordNumber;
+ghost use mathlib.Core.Path.{_≡_};
+ghost use Rattle.thread_records.specs.Records.{emptyList, idleCall, idleRecord, notAlive, notIdle, notCalling};
+ghost use Rattle.thread_records.specs.Deaths.{deathTests, deathOf};
+
+// The owners that a recover goes by. Those from `count` on say nothing.
+pub struct OwnerList {
+    pub count: u8,
+    pub owners: [OwnerId; 8],
+}
+
+// Where a record's call stands and what it remembers; place 0 is no call. Of the rest each place reads a part.
+pub struct Remembered {
+    pub place: u8,
+    pub mode: u8,
+    pub index: Index,
+    pub seen: u64,
+    pub value: u32,
+    pub owner: OwnerId,
+    pub generation: Generation,
+    pub bump_generation: Generation,
+    pub count_generation: Generation,
+    pub count_cell: Index,
+    pub counted: u32,
+    pub reported: u32,
+    pub room: u32,
+}
+
+pub struct Record {
+    pub dead: bool,
+    pub call: Remembered,
+    pub list: OwnerList,
+}
+
+pub fn empty_list() -> OwnerList
+    ensures { λ r. ⌜ r ≡ emptyList ⌝ }
+{
+    OwnerList {
+        count: 0,
+        owners: [OwnerId(0); 8],
+    }
+}
+
+pub fn idle_call() -> Remembered
+    ensures { λ r. ⌜ r ≡ idleCall ⌝ }
+{
+    Remembered {
+        place: 0,
+        mode: 0,
+        index: Index(0),
+        seen: 0,
+        value: 0,
+        owner: OwnerId(0),
+        generation: Generation(0),
+        bump_generation: Generation(0),
+        count_generation: Generation(0),
+        count_cell: Index(0),
+        counted: 0,
+        reported: 0,
+        room: 0,
+    }
+}
+
+// The record that a setup or an answer leaves: all 0 beside its list.
+pub fn idle_record(list: OwnerList) -> Record
+    ensures { λ r. ⌜ r ≡ idleRecord list ⌝ }
+{
+    Record {
+        dead: false,
+        call: idle_call(),
+        list: list,
+    }
+}
+
+// No such record, or a dead one.
+pub fn is_not_alive(thread: Record, records: usize, who: RecordNumber) -> bool
+    ensures { λ r. ⌜ r ≡ notAlive thread records who ⌝ }
+{
+    if records <= (who.0 as usize) {
+        return true;
+    }
+    thread.dead
+}
+
+// Refusal 9 of a start or a list: no such record, dead, or busy.
+pub fn is_not_idle(thread: Record, records: usize, who: RecordNumber) -> bool
+    ensures { λ r. ⌜ r ≡ notIdle thread records who ⌝ }
+{
+    if is_not_alive(thread, records, who) {
+        return true;
+    }
+    thread.call.place != 0
+}
+
+// Refusal 9 of a step or a drain: no such record, dead, or idle.
+pub fn is_not_calling(thread: Record, records: usize, who: RecordNumber) -> bool
+    ensures { λ r. ⌜ r ≡ notCalling thread records who ⌝ }
+{
+    if is_not_alive(thread, records, who) {
+        return true;
+    }
+    thread.call.place == 0
+}
+
+pub struct Died {
+    pub thread: Record,
+    pub report: Report,
+}
+
+fn death_tests(thread: Record, records: usize, who: RecordNumber) -> Tests
+    ensures { λ r. ⌜ r ≡ deathTests thread records who ⌝ }
+{
+    Tests {
+        capacity_above_limit: false,
+        capacity_zero: false,
+        buffer_too_short: records > RECORDS_LIMIT,
+        record_not_ready: is_not_alive(thread, records, who),
+        record_damaged: false,
+        not_known: false,
+        owner_is_empty: false,
+        index_out_of_range: false,
+        index_not_held: false,
+    }
+}
+
+// A death marks the record, and nothing else changes.
+pub fn death(thread: Record, records: usize, who: RecordNumber) -> Died
+    ensures { λ r. ⌜ r ≡ deathOf thread records who ⌝ }
+{
+    let verdict = death_tests(thread, records, who).verdict();
+    match verdict {
+        Verdict::Refused(why) => Died {
+            thread: thread,
+            report: Report::refused(why),
+        },
+        Verdict::Accepted => {
+            let call = thread.call;
+            let list = thread.list;
+            Died {
+                thread: Record {
+                    dead: true,
+                    call: call,
+                    list: list,
+                },
+                report: Report::accepted(),
+            }
+        }
+    }
+}
