@@ -1,6 +1,8 @@
 -- What is reported of an entry, where a step tells nothing beside its progress.
+use mathlib.Core.Bool.{Bool, true, false}
 use Rattle.calls.specs.declared.Answer.{Answer}
 use Rattle.calls.specs.declared.Refusal.{Refusal}
+use Rattle.calls.specs.declared.Progress.{Progress}
 use Rattle.calls.specs.declared.Progress.the-variants.{Accepted, Answered, Refused}
 use Rattle.calls.specs.declared.Noted.the-variants.{Nothing}
 use Rattle.calls.specs.declared.Report.{Report}
@@ -13,3 +15,9 @@ answeredReport answer = record { progress = Answered answer; noted = Nothing }
 
 abbrev pub refusedReport : Refusal → Report
 refusedReport why = record { progress = Refused why; noted = Nothing }
+
+-- the call goes on: no answer yet
+abbrev pub goesOn : Progress → Bool
+goesOn Accepted = true
+goesOn (Answered answer) = false
+goesOn (Refused why) = false

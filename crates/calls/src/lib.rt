@@ -7,7 +7,7 @@ use unique_index_set_enums::UniqueIndexSetAcquireFailure;
 ghost use mathlib.Core.Path.{_≡_};
 ghost use Rattle.calls.specs.Numbers.{callRead, answerNumber, answerValue, refusalNumber};
 ghost use Rattle.calls.specs.Order.{verdictOf};
-ghost use Rattle.calls.specs.Reports.{acceptedReport, answeredReport, refusedReport};
+ghost use Rattle.calls.specs.Reports.{acceptedReport, answeredReport, refusedReport, goesOn};
 
 pub enum Call {
     Acquire,
@@ -199,6 +199,18 @@ impl Report {
         Report {
             progress: Progress::Refused(why),
             noted: Noted::Nothing,
+        }
+    }
+
+    // The call goes on: no answer yet.
+    pub fn goes_on(self) -> bool
+        ensures { λ r. ⌜ r ≡ goesOn (self .progress) ⌝ }
+    {
+        let progress = self.progress;
+        match progress {
+            Progress::Accepted => true,
+            Progress::Answered(_) => false,
+            Progress::Refused(_) => false,
         }
     }
 }

@@ -1,3 +1,5 @@
 pub mod Records
 pub mod Effects
 pub mod Deaths
+pub mod Drains
+pub mod Filled

@@ -33,13 +33,13 @@ idleCall = record {
   room = 0;
 }
 
--- what a setup or an answer leaves: all 0, the list beside it
-abbrev pub idleRecord : OwnerList → Record
-idleRecord list = record { dead = false; call = idleCall; list = list }
+-- a live record, its list beside its call
+abbrev pub liveRecord : Remembered → OwnerList → Record
+liveRecord call list = record { dead = false; call = call; list = list }
 
--- the call of a record goes on, or is over; its list stays
-abbrev pub withCall : Remembered → Record → Record
-withCall call t = record { dead = t .dead; call = call; list = t .list }
+-- what a setup or an answer leaves: all 0 beside the list
+abbrev pub idleRecord : OwnerList → Record
+idleRecord list = liveRecord idleCall list
 
 abbrev pub markedDead : Record → Record
 markedDead t = record { dead = true; call = t .call; list = t .list }

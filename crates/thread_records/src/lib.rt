@@ -9,7 +9,7 @@ use unique_index_set_enums::OwnerId;
 use unique_index_set_enums::RECORDS_LIMIT;
 use unique_index_set_enums::RecordNumber;
 ghost use mathlib.Core.Path.{_≡_};
-ghost use Rattle.thread_records.specs.Records.{emptyList, idleCall, idleRecord, notAlive, notIdle, notCalling};
+ghost use Rattle.thread_records.specs.Records.{emptyList, idleCall, liveRecord, idleRecord, notAlive, notIdle, notCalling};
 ghost use Rattle.thread_records.specs.Deaths.{deathTests, deathOf};
 
 // The owners that a recover goes by. Those from `count` on say nothing.
@@ -70,15 +70,22 @@ pub fn idle_call() -> Remembered
     }
 }
 
+// A live record, its list beside its call.
+pub fn live_record(call: Remembered, list: OwnerList) -> Record
+    ensures { λ r. ⌜ r ≡ liveRecord call list ⌝ }
+{
+    Record {
+        dead: false,
+        call: call,
+        list: list,
+    }
+}
+
 // The record that a setup or an answer leaves: all 0 beside its list.
 pub fn idle_record(list: OwnerList) -> Record
     ensures { λ r. ⌜ r ≡ idleRecord list ⌝ }
 {
-    Record {
-        dead: false,
-        call: idle_call(),
-        list: list,
-    }
+    live_record(idle_call(), list)
 }
 
 // No such record, or a dead one.

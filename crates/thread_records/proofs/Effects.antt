@@ -1,0 +1,35 @@
+-- Of both sets: what is refused changes nothing, and two results of one contract are the same. Assumes nothing.
+use mathlib.Core.Path.{_≡_, refl, sym, ap, _∙_}
+use Rattle.calls.specs.declared.Refusal.{Refusal}
+use Rattle.calls.specs.declared.Progress.the-variants.{Refused}
+use Rattle.calls.specs.declared.Report.{Report}
+use Rattle.calls.specs.declared.Verdict.{Verdict}
+use Rattle.calls.specs.declared.Verdict.the-variants as verdict
+use Rattle.thread_records.specs.declared.Record.{Record}
+use Rattle.thread_records.specs.Effects.{Effect, unchanged, judged}
+
+-- an effect that is a refusal has changed nothing
+pub record Unchanged {S : Type 0} (s : S) (t : Record) (e : Effect S) : Type 0 where
+  pub shared : e .shared ≡ s
+  pub thread : e .thread ≡ t
+
+abbrev pub Harmless : {S : Type 0} → S → Record → Effect S → Type 0
+Harmless s t e = (why : Refusal) → e .report .progress ≡ Refused why → Unchanged s t e
+
+pub unchanged-harmless : {S : Type 0} (s : S) (t : Record) (why : Refusal) → Harmless s t (unchanged s t why)
+unchanged-harmless s t why why' e = record { shared = refl; thread = refl }
+
+pub judged-harmless : {S : Type 0} (v : Verdict) (s : S) (t : Record) (e : Effect S) → Harmless s t e → Harmless s t (judged v s t e)
+judged-harmless (verdict.Refused why) s t e h = unchanged-harmless s t why
+judged-harmless verdict.Accepted s t e h = h
+
+-- two effects of one definition are one, thing by thing
+pub record Same {S : Type 0} (d e : Effect S) : Type 0 where
+  pub shared : d .shared ≡ e .shared
+  pub thread : d .thread ≡ e .thread
+  pub report : d .report ≡ e .report
+
+pub same : {S : Type 0} (d e f : Effect S) → d ≡ f → e ≡ f → Same d e
+same d e f p q =
+    let r = p ∙ sym q in
+    record { shared = ap (λ (x : Effect _). x .shared) r; thread = ap (λ (x : Effect _). x .thread) r; report = ap (λ (x : Effect _). x .report) r }

@@ -1,0 +1,90 @@
+use borrow.Author.Needs.{needs}
+use Rattle.unique_index_set.proofs.moves.perform.Statement.{statement}
+use Rattle.unique_index_set.proofs.moves.perform.Tie as tie
+use Rattle.unique_index_set.proofs.moves.perform.Reads as reads
+use Rattle.unique_index_set.proofs.moves.perform.Lts as lts
+
+-- src/moves.rt:53:18
+enum-told : tie.Need-enum-told
+enum-told c = search needs
+
+-- src/moves.rt:59:26
+enum-known-access : tie.Need-enum-known-access
+enum-known-access c = search needs
+
+-- src/moves.rt:61:17
+returns : tie.Need-returns
+returns c = ?
+
+-- src/moves.rt:79:22
+enum-known-access-2 : tie.Need-enum-known-access-2
+enum-known-access-2 c = search needs
+
+-- src/moves.rt:80:22
+cast-at : tie.Need-cast-at
+cast-at c = search needs
+
+-- src/moves.rt:81:25
+mul-value : tie.Need-mul-value
+mul-value c = search needs
+
+-- src/moves.rt:81:25
+slice-read-value : tie.Need-slice-read-value
+slice-read-value c = ?
+
+-- src/moves.rt:91:23
+enum-known-access-3 : tie.Need-enum-known-access-3
+enum-known-access-3 c = search needs
+
+-- src/moves.rt:92:22
+cast-at-2 : tie.Need-cast-at-2
+cast-at-2 c = search needs
+
+-- src/moves.rt:93:13
+mul-slots : tie.Need-mul-slots
+mul-slots c = search needs
+
+-- src/moves.rt:93:13
+slice-write-slots : tie.Need-slice-write-slots
+slice-write-slots c = ?
+
+-- src/moves.rt:46:1
+returns-2 : tie.Need-returns-2
+returns-2 c = ?
+
+-- src/moves.rt:46:1
+returns-3 : tie.Need-returns-3
+returns-3 c = ?
+
+-- src/moves.rt:46:1
+returns-4 : tie.Need-returns-4
+returns-4 c = ?
+
+-- src/moves.rt:46:1
+same-length : tie.Need-same-length
+same-length c = search needs
+
+-- src/moves.rt:46:1
+returns-5 : tie.Need-returns-5
+returns-5 c = ?
+
+pub perform-spec : {M : Type 1} → statement M
+perform-spec =
+    tie.close
+    (tie.spec
+    enum-told
+    enum-known-access
+    returns
+    enum-known-access-2
+    cast-at
+    mul-value
+    slice-read-value
+    enum-known-access-3
+    cast-at-2
+    mul-slots
+    slice-write-slots
+    returns-2
+    returns-3
+    returns-4
+    same-length
+    returns-5)

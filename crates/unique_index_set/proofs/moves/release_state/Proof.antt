@@ -1,0 +1,34 @@
+use borrow.Author.Needs.{needs}
+use Rattle.unique_index_set.proofs.moves.release_state.Statement.{statement}
+use Rattle.unique_index_set.proofs.moves.release_state.Tie as tie
+use Rattle.unique_index_set.proofs.moves.release_state.Reads as reads
+use Rattle.unique_index_set.proofs.moves.release_state.Lts as lts
+use Rattle.head_details.proofs.HeadDetails.from.Reads as from-reads
+
+-- src/moves.rt:206:9
+from-requires : tie.Need-from-requires
+from-requires c κs = search needs
+
+-- src/moves.rt:208:33
+enum-told : tie.Need-enum-told
+enum-told c = search needs
+
+-- src/moves.rt:210:16
+enum-told-2 : tie.Need-enum-told-2
+enum-told-2 c = search needs
+
+-- src/moves.rt:211:17
+returns : tie.Need-returns
+returns c = ?
+
+-- src/moves.rt:203:1
+returns-2 : tie.Need-returns-2
+returns-2 c = search needs
+
+-- src/moves.rt:203:1
+returns-3 : tie.Need-returns-3
+returns-3 c = ?
+
+pub release-state-spec : {M : Type 1} → statement M
+release-state-spec =
+    tie.close (tie.spec from-requires enum-told enum-told-2 returns returns-2 returns-3)

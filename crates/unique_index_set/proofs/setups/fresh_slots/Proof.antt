@@ -1,0 +1,67 @@
+use Rattle.unique_index_set.proofs.setups.fresh_slots.Statement.{statement}
+use Rattle.unique_index_set.proofs.setups.fresh_slots.Tie as tie
+use Rattle.unique_index_set.proofs.setups.fresh_slots.Reads as reads
+use Rattle.unique_index_set.proofs.setups.fresh_slots.Lts as lts
+
+abbrev Inv-loop : tie.InvT-loop
+Inv-loop slots₀ n i₀ slots i = ?
+
+abbrev μ-loop : tie.MeasureT-loop
+μ-loop slots₀ n i₀ slots i = ?
+
+-- src/setups.rt:26:5
+loop-holds : tie.Need-loop-holds Inv-loop μ-loop
+loop-holds c = ?
+
+-- src/setups.rt:27:18
+cast-at : tie.Need-cast-at Inv-loop μ-loop
+cast-at c = ?
+
+-- src/setups.rt:28:21
+add-slots : tie.Need-add-slots Inv-loop μ-loop
+add-slots c = ?
+
+-- src/setups.rt:28:9
+mul-slots : tie.Need-mul-slots Inv-loop μ-loop
+mul-slots c = ?
+
+-- src/setups.rt:28:9
+slice-write-slots : tie.Need-slice-write-slots Inv-loop μ-loop
+slice-write-slots c = ?
+
+-- src/setups.rt:29:9
+add-i : tie.Need-add-i Inv-loop μ-loop
+add-i c = ?
+
+-- src/setups.rt:26:5
+loop-less : tie.Need-loop-less Inv-loop μ-loop
+loop-less c = ?
+
+-- src/setups.rt:26:5
+loop-again : tie.Need-loop-again Inv-loop μ-loop
+loop-again c = ?
+
+-- src/setups.rt:21:1
+same-length : tie.Need-same-length Inv-loop μ-loop
+same-length c = ?
+
+-- src/setups.rt:21:1
+returns : tie.Need-returns Inv-loop μ-loop
+returns c = ?
+
+pub fresh-slots-spec : {M : Type 1} → statement M
+fresh-slots-spec =
+    tie.close
+    (tie.spec
+    Inv-loop
+    μ-loop
+    loop-holds
+    cast-at
+    add-slots
+    mul-slots
+    slice-write-slots
+    add-i
+    loop-less
+    loop-again
+    same-length
+    returns)

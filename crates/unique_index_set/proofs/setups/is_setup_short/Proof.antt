@@ -1,0 +1,15 @@
+use Rattle.unique_index_set.proofs.setups.is_setup_short.Statement.{statement}
+use Rattle.unique_index_set.proofs.setups.is_setup_short.Tie as tie
+use Rattle.unique_index_set.proofs.setups.is_setup_short.Reads as reads
+use Rattle.unique_index_set.proofs.setups.is_setup_short.Lts as lts
+
+-- src/setups.rt:60:9
+returns : tie.Need-returns
+returns c = ?
+
+-- src/setups.rt:56:1
+returns-2 : tie.Need-returns-2
+returns-2 c = ?
+
+pub is-setup-short-spec : {M : Type 1} → statement M
+is-setup-short-spec = tie.close (tie.spec returns returns-2)

@@ -1,0 +1,6 @@
+pub mod Moves
+pub mod Custodies
+pub mod Steps
+pub mod Starts
+pub mod Setups
+pub mod Drains

@@ -1,0 +1,60 @@
+-- A setup: head word 0, slot i holds i + 1 for i from 0 to the capacity (295 to 299), custody free below it, the record idle, its
+-- list empty. Entries beyond stay.
+use Prim.Native.Nat.{ℕ, _+_}
+use mathlib.Core.Bool.{Bool, true, false, cond}
+use mathlib.Core.List.{List}
+use lib.ListN.{length}
+use lib.Dec.{ltb, leb, eqb}
+use Rattle.unique_index_set_enums.specs.Limits.{plainCapacityLimit, recordsLimit}
+use Rattle.calls.specs.declared.Tests.{Tests}
+use Rattle.calls.specs.declared.Verdict.{Verdict}
+use Rattle.calls.specs.Order.{verdictOf}
+use Rattle.calls.specs.Reports.{acceptedReport}
+use Rattle.thread_records.specs.declared.Record.{Record}
+use Rattle.thread_records.specs.Records.{emptyList, idleRecord}
+use Rattle.thread_records.specs.Effects.{Effect, judged}
+use Rattle.thread_records.specs.Filled.{filled}
+use Rattle.unique_index_set.specs.Steps.{Shared}
+
+abbrev pub nextIndex : ℕ → ℕ
+nextIndex i = i + 1
+
+abbrev pub freeEntry : ℕ → ℕ
+freeEntry i = 0
+
+-- refusal 3 of a setup: above the limit, or too large for the slots
+unfoldable pub tooLarge : ℕ → ℕ → Bool
+tooLarge capacity slots = cond (ltb plainCapacityLimit capacity) true (leb slots capacity)
+
+-- refusal 10 of a setup
+unfoldable pub setupShort : ℕ → ℕ → ℕ → Bool
+setupShort capacity records custody = cond (ltb recordsLimit records) true (ltb custody capacity)
+
+-- refusals 3, 4 and 10, where `slots` and `custody` are the buffers' lengths
+abbrev pub setupTests : ℕ → ℕ → ℕ → ℕ → Tests
+setupTests capacity records slots custody = record {
+  «capacity_above_limit» = tooLarge capacity slots;
+  «capacity_zero» = eqb capacity 0;
+  «buffer_too_short» = setupShort capacity records custody;
+  «record_not_ready» = false;
+  «record_damaged» = false;
+  «not_known» = false;
+  «owner_is_empty» = false;
+  «index_out_of_range» = false;
+  «index_not_held» = false;
+}
+
+unfoldable pub setupVerdict : ℕ → ℕ → ℕ → ℕ → Verdict
+setupVerdict capacity records slots custody = verdictOf (setupTests capacity records slots custody)
+
+abbrev pub fresh : ℕ → Shared → Shared
+fresh capacity s = record {
+  set = record { capacity = capacity; head = 0 };
+  slots = filled nextIndex (capacity + 1) (s .slots);
+  custody = filled freeEntry capacity (s .custody);
+}
+
+unfoldable pub setupOf : ℕ → ℕ → Shared → Record → Effect Shared
+setupOf records capacity s t =
+    judged (setupVerdict capacity records (length (s .slots)) (length (s .custody))) s t
+    (record { shared = fresh capacity s; thread = idleRecord emptyList; report = acceptedReport })

@@ -1,0 +1,134 @@
+-- The start of a call: it enters at the call's first place and touches no shared word. A release's start marks its index as being
+-- given back.
+use Prim.Native.Nat.{ℕ}
+use mathlib.Core.Bool.{Bool, true, false, cond, not}
+use mathlib.Core.List.{List}
+use lib.ListN.{length}
+use lib.Dec.{ltb, leb, eqb}
+use Rattle.unique_index_set_enums.specs.declared.RecordNumber.{RecordNumber}
+use Rattle.unique_index_set_enums.specs.declared.ModeRead.{ModeRead}
+use Rattle.unique_index_set_enums.specs.declared.ModeRead.the-variants as mode
+use Rattle.unique_index_set_enums.specs.Kinds.{index}
+use Rattle.unique_index_set_enums.specs.Limits.{plainCapacityLimit}
+use Rattle.unique_index_set_enums.specs.Numbers.{modeRead}
+use Rattle.calls.specs.declared.Call.{Call}
+use Rattle.calls.specs.declared.Call.the-variants as call
+use Rattle.calls.specs.declared.CallRead.{CallRead}
+use Rattle.calls.specs.declared.CallRead.the-variants.{Known, Unknown}
+use Rattle.calls.specs.declared.Request.{Request}
+use Rattle.calls.specs.declared.Refusal.the-variants as refusal
+use Rattle.calls.specs.declared.Tests.{Tests}
+use Rattle.calls.specs.declared.Verdict.{Verdict}
+use Rattle.calls.specs.Numbers.{callRead}
+use Rattle.calls.specs.Order.{verdictOf}
+use Rattle.calls.specs.Reports.{acceptedReport}
+use Rattle.thread_records.specs.declared.OwnerList.{OwnerList}
+use Rattle.thread_records.specs.declared.Record.{Record}
+use Rattle.thread_records.specs.Records.{liveRecord, notIdle}
+use Rattle.thread_records.specs.Effects.{Effect, unchanged, judged}
+use Rattle.custody.specs.declared.Custody.the-variants.{Giving}
+use Rattle.plain_places.specs.declared.Place.{Place}
+use Rattle.plain_places.specs.declared.Place.the-variants.{AcquireLook, ReleaseLook, BorrowedLook, LockedLook}
+use Rattle.plain_places.specs.Places.{closedAt}
+use Rattle.unique_index_set.specs.declared.UniqueIndexSet.{UniqueIndexSet}
+use Rattle.unique_index_set.specs.declared.steps.Stepped.{Stepped}
+use Rattle.unique_index_set.specs.declared.starts.Asked.{Asked}
+use Rattle.unique_index_set.specs.declared.starts.Asked.the-variants.{Acquire, Release, BorrowedIndices, IsLocked, NotKnown}
+use Rattle.unique_index_set.specs.declared.marks.Mark.{Mark}
+use Rattle.unique_index_set.specs.declared.marks.Mark.the-variants.{Nothing, As}
+use Rattle.unique_index_set.specs.Custodies.{marked, holds}
+use Rattle.unique_index_set.specs.Steps.{Shared, leaves, tooShort}
+
+-- what a request asks of a plain set: find, recover, an unknown call, and a release in an unknown mode are not known
+abbrev pub releaseIn : ModeRead → Request → Asked
+releaseIn (mode.Known m) request = Release (index (request .«index_or_room»)) m
+releaseIn mode.Unknown request = NotKnown
+
+unfoldable pub askedRelease : Request → Asked
+askedRelease request = releaseIn (modeRead (request .mode)) request
+
+abbrev pub askedCall : Call → Request → Asked
+askedCall call.Acquire request = Acquire
+askedCall call.Release request = askedRelease request
+askedCall call.BorrowedIndices request = BorrowedIndices
+askedCall call.IsLocked request = IsLocked
+askedCall call.Find request = NotKnown
+askedCall call.Recover request = NotKnown
+
+abbrev pub askedRead : CallRead → Request → Asked
+askedRead (Known c) request = askedCall c request
+askedRead Unknown request = NotKnown
+
+unfoldable pub askedOf : Request → Asked
+askedOf request = askedRead (callRead (request .call)) request
+
+-- refusal 13
+abbrev pub isNotKnown : Asked → Bool
+isNotKnown Acquire = false
+isNotKnown (Release i m) = false
+isNotKnown BorrowedIndices = false
+isNotKnown IsLocked = false
+isNotKnown NotKnown = true
+
+-- refusal 7
+abbrev pub isOutOfRange : ℕ → Asked → Bool
+isOutOfRange capacity Acquire = false
+isOutOfRange capacity (Release i m) = leb capacity (i .0)
+isOutOfRange capacity BorrowedIndices = false
+isOutOfRange capacity IsLocked = false
+isOutOfRange capacity NotKnown = false
+
+-- refusal 8
+abbrev pub isNotHeld : RecordNumber → Asked → List ℕ → Bool
+isNotHeld who Acquire custody = false
+isNotHeld who (Release i m) custody = not (holds who i custody)
+isNotHeld who BorrowedIndices custody = false
+isNotHeld who IsLocked custody = false
+isNotHeld who NotKnown custody = false
+
+-- refusals 3, 4, 10, 9, 13, 7 and 8, where `slots` is that buffer's length
+abbrev pub startTests : ℕ → ℕ → RecordNumber → ℕ → List ℕ → Asked → Record → Tests
+startTests capacity records who slots custody asked t = record {
+  «capacity_above_limit» = ltb plainCapacityLimit capacity;
+  «capacity_zero» = eqb capacity 0;
+  «buffer_too_short» = tooShort capacity records slots (length custody);
+  «record_not_ready» = notIdle t records who;
+  «record_damaged» = false;
+  «not_known» = isNotKnown asked;
+  «owner_is_empty» = false;
+  «index_out_of_range» = isOutOfRange capacity asked;
+  «index_not_held» = isNotHeld who asked custody;
+}
+
+unfoldable pub startVerdict : ℕ → ℕ → RecordNumber → ℕ → List ℕ → Asked → Record → Verdict
+startVerdict capacity records who slots custody asked t = verdictOf (startTests capacity records who slots custody asked t)
+
+abbrev pub startJudged : ℕ → RecordNumber → Asked → Shared → Record → Verdict
+startJudged records who asked s t = startVerdict (s .set .capacity) records who (length (s .slots)) (s .custody) asked t
+
+-- a release's start marks its index as being given back, by its holder; no other start marks anything
+abbrev pub startMark : RecordNumber → Asked → Mark
+startMark who Acquire = Nothing
+startMark who (Release i m) = As i (Giving who who)
+startMark who BorrowedIndices = Nothing
+startMark who IsLocked = Nothing
+startMark who NotKnown = Nothing
+
+-- the call enters at its first place
+abbrev pub enteredAs : UniqueIndexSet → Place → OwnerList → Stepped
+enteredAs set p list = record { set = set; thread = liveRecord (closedAt p) list; report = acceptedReport }
+
+abbrev pub entered : Place → Mark → Shared → Record → Effect Shared
+entered p mark s t = leaves (enteredAs (s .set) p (t .list)) (s .slots) (marked mark (s .custody))
+
+-- what is accepted is known, so the last case is of none
+abbrev pub startedFrom : Asked → RecordNumber → Shared → Record → Effect Shared
+startedFrom Acquire who s t = entered AcquireLook (startMark who Acquire) s t
+startedFrom (Release i m) who s t = entered (ReleaseLook i m) (startMark who (Release i m)) s t
+startedFrom BorrowedIndices who s t = entered BorrowedLook (startMark who BorrowedIndices) s t
+startedFrom IsLocked who s t = entered LockedLook (startMark who IsLocked) s t
+startedFrom NotKnown who s t = unchanged s t refusal.NotKnown
+
+-- the start, by the record whose number is `who`, of what is requested
+unfoldable pub startOf : ℕ → RecordNumber → Request → Shared → Record → Effect Shared
+startOf records who request s t = judged (startJudged records who (askedOf request) s t) s t (startedFrom (askedOf request) who s t)
