@@ -34,7 +34,7 @@ returns-2 c = search needs
 
 -- src/marks.rt:71:1
 returns-3 : tie.Need-returns-3
-returns-3 c = ?
+returns-3 c = simp (c .before .before .before .what .given .1)
 
 -- src/marks.rt:71:1
 returns-4 : tie.Need-returns-4

@@ -1,3 +1,9 @@
+use mathlib.Core.Path.{refl}
+use borrow.Author.Tests.{le-ltb}
+use borrow.Author.Tests.{le-leb}
+use borrow.Author.Tests.{lt-leb}
+use borrow.Author.Tests.{lt-ltb}
+use Rattle.unique_index_set.specs.Custodies.{holds}
 use borrow.Author.Needs.{needs}
 use Rattle.unique_index_set.proofs.marks.is_holding.Statement.{statement}
 use Rattle.unique_index_set.proofs.marks.is_holding.Tie as tie
@@ -28,11 +34,13 @@ is-held-by-requires c κs = search needs
 
 -- src/marks.rt:90:9
 returns : tie.Need-returns
-returns c = ?
+unfolding holds
+returns c = simp (c .is-held-by .ensures, c .before .from .ensures, lt-ltb _ _ (c .before .before .before .if1 .taken))
 
 -- src/marks.rt:84:1
 returns-2 : tie.Need-returns-2
-returns-2 c = ?
+unfolding holds
+returns-2 c = simp (le-ltb _ _ (c .if1 .left))
 
 pub is-holding-spec : {M : Type 1} → statement M
 is-holding-spec =

@@ -1,3 +1,4 @@
+use mathlib.Core.Path.{refl}
 use borrow.Author.Needs.{needs}
 use Rattle.unique_index_set.proofs.marks.mark_at.Statement.{statement}
 use Rattle.unique_index_set.proofs.marks.mark_at.Tie as tie
@@ -24,7 +25,7 @@ from-requires c κs = search needs
 
 -- src/marks.rt:40:17
 returns : tie.Need-returns
-returns c = ?
+returns c = simp (← c .before .from .ensures .head, c .before .before .if1 .taken, c .before .before .before .before .place .given .1)
 
 -- src/marks.rt:44:29
 enum-known-place-2 : tie.Need-enum-known-place-2
@@ -48,7 +49,7 @@ enum-known-place-4 c = search needs
 
 -- src/marks.rt:49:17
 returns-2 : tie.Need-returns-2
-returns-2 c = ?
+returns-2 c = simp (c .if2 .taken, c .before .before .place4 .given .1)
 
 -- src/marks.rt:51:13
 release-mark-requires-2 : tie.Need-release-mark-requires-2
@@ -76,11 +77,11 @@ returns-5 c = search needs
 
 -- src/marks.rt:30:1
 returns-6 : tie.Need-returns-6
-returns-6 c = ?
+returns-6 c = simp (c .before .place2 .given .1)
 
 -- src/marks.rt:30:1
 returns-7 : tie.Need-returns-7
-returns-7 c = ?
+returns-7 c = simp (c .release-mark .ensures, c .before .before .place3 .given .1)
 
 -- src/marks.rt:30:1
 returns-8 : tie.Need-returns-8
@@ -88,7 +89,7 @@ returns-8 c = search needs
 
 -- src/marks.rt:30:1
 returns-9 : tie.Need-returns-9
-returns-9 c = ?
+returns-9 c = simp (c .release-mark2 .ensures, c .before .if2 .left, c .before .before .before .place4 .given .1)
 
 -- src/marks.rt:30:1
 returns-10 : tie.Need-returns-10

@@ -1,3 +1,4 @@
+use borrow.Author.Tests.{ltb-true}
 use borrow.Author.Needs.{needs}
 use Rattle.unique_index_set.proofs.marks.put_mark.Statement.{statement}
 use Rattle.unique_index_set.proofs.marks.put_mark.Tie as tie
@@ -26,7 +27,7 @@ mul-custody c = search needs
 
 -- src/marks.rt:66:13
 slice-write-custody : tie.Need-slice-write-custody
-slice-write-custody c = ?
+slice-write-custody c = ltb-true _ _ (rw (c .before .before .before .mark .given .1) at (c .before .before .before .before .before .before .pre))
 
 -- src/marks.rt:58:1
 returns : tie.Need-returns
@@ -38,7 +39,7 @@ same-length c = search needs
 
 -- src/marks.rt:58:1
 returns-2 : tie.Need-returns-2
-returns-2 c = ?
+returns-2 c = simp (c .entry .ensures, c .before .before .before .mark .given .1)
 
 pub put-mark-spec : {M : Type 1} → statement M
 put-mark-spec =

@@ -1,3 +1,5 @@
+use mathlib.Core.Path.{refl}
+use Rattle.unique_index_set.specs.Custodies.{releaseMark}
 use borrow.Author.Needs.{needs}
 use Rattle.unique_index_set.proofs.marks.release_mark.Statement.{statement}
 use Rattle.unique_index_set.proofs.marks.release_mark.Tie as tie
@@ -11,11 +13,13 @@ may-release-requires c κs = search needs
 
 -- src/marks.rt:24:9
 returns : tie.Need-returns
-returns c = ?
+unfolding releaseMark
+returns c = simp (← c .before .may-release .ensures, c .if1 .taken)
 
 -- src/marks.rt:20:1
 returns-2 : tie.Need-returns-2
-returns-2 c = ?
+unfolding releaseMark
+returns-2 c = simp (← c .before .may-release .ensures, c .if1 .left)
 
 pub release-mark-spec : {M : Type 1} → statement M
 release-mark-spec = tie.close (tie.spec may-release-requires returns returns-2)

@@ -1,3 +1,5 @@
+use Rattle.unique_index_set.proofs.Sound.{exchange-borrowed}
+use mathlib.Core.Path.{refl}
 use borrow.Author.Needs.{needs}
 use Rattle.unique_index_set.proofs.moves.access_at.Statement.{statement}
 use Rattle.unique_index_set.proofs.moves.access_at.Tie as tie
@@ -53,7 +55,7 @@ enum-known-place-5 c = search needs
 
 -- src/moves.rt:171:13
 released-word-requires : tie.Need-released-word-requires
-released-word-requires c κs = ?
+released-word-requires c κs = exchange-borrowed _ _ (c .before .place5 .given .1) (c .before .before .before .pre .0)
 
 -- src/moves.rt:173:32
 enum-told-3 : tie.Need-enum-told-3
@@ -69,15 +71,15 @@ returns c = search needs
 
 -- src/moves.rt:151:1
 returns-2 : tie.Need-returns-2
-returns-2 c = ?
+returns-2 c = simp (← c .before .from .ensures .head, c .before .before .before .place .given .1)
 
 -- src/moves.rt:151:1
 returns-3 : tie.Need-returns-3
-returns-3 c = ?
+returns-3 c = simp (c .acquired-word .ensures, c .before .before .place2 .given .1)
 
 -- src/moves.rt:151:1
 returns-4 : tie.Need-returns-4
-returns-4 c = ?
+returns-4 c = simp (c .before .place3 .given .1)
 
 -- src/moves.rt:151:1
 returns-5 : tie.Need-returns-5
@@ -85,11 +87,11 @@ returns-5 c = search needs
 
 -- src/moves.rt:151:1
 returns-6 : tie.Need-returns-6
-returns-6 c = ?
+returns-6 c = simp (c .from2 .ensures .head, c .before .before .place4 .given .1)
 
 -- src/moves.rt:151:1
 returns-7 : tie.Need-returns-7
-returns-7 c = ?
+returns-7 c = simp (c .released-word .ensures, c .before .before .place5 .given .1)
 
 -- src/moves.rt:151:1
 returns-8 : tie.Need-returns-8

@@ -1,3 +1,4 @@
+use Rattle.unique_index_set.specs.Moves.{acquiredWord}
 use borrow.Author.Needs.{needs}
 use Rattle.unique_index_set.proofs.moves.acquired_word.Statement.{statement}
 use Rattle.unique_index_set.proofs.moves.acquired_word.Tie as tie
@@ -25,7 +26,8 @@ value-requires c κs = search needs
 
 -- src/moves.rt:107:1
 returns : tie.Need-returns
-returns c = ?
+unfolding acquiredWord
+returns c = simp (c .value .ensures, c .before .before .wrapping-add-u16 .ensures, c .before .before .before .from .ensures .aba, c .before .before .before .from .ensures .borrowed)
 
 pub acquired-word-spec : {M : Type 1} → statement M
 acquired-word-spec =

@@ -1,3 +1,7 @@
+use mathlib.Core.Path.{refl}
+use borrow.Author.Tests.{ne-eqb}
+use borrow.Author.Tests.{eq-eqb}
+use Rattle.unique_index_set.specs.Moves.{borrowedIndices}
 use borrow.Author.Needs.{needs}
 use Rattle.unique_index_set.proofs.moves.borrowed_indices.Statement.{statement}
 use Rattle.unique_index_set.proofs.moves.borrowed_indices.Tie as tie
@@ -11,11 +15,13 @@ from-requires c κs = search needs
 
 -- src/moves.rt:223:9
 returns : tie.Need-returns
-returns c = ?
+unfolding borrowedIndices
+returns c = simp (← c .before .before .from .ensures .borrowed, eq-eqb _ _ (c .if1 .taken))
 
 -- src/moves.rt:218:1
 returns-2 : tie.Need-returns-2
-returns-2 c = ?
+unfolding borrowedIndices
+returns-2 c = simp (← c .before .before .from .ensures .borrowed, ne-eqb _ _ (c .if1 .left))
 
 pub borrowed-indices-spec : {M : Type 1} → statement M
 borrowed-indices-spec = tie.close (tie.spec from-requires returns returns-2)

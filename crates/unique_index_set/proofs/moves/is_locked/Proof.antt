@@ -1,3 +1,4 @@
+use Rattle.unique_index_set.specs.Moves.{isLocked}
 use borrow.Author.Needs.{needs}
 use Rattle.unique_index_set.proofs.moves.is_locked.Statement.{statement}
 use Rattle.unique_index_set.proofs.moves.is_locked.Tie as tie
@@ -11,7 +12,8 @@ from-requires c κs = search needs
 
 -- src/moves.rt:228:1
 returns : tie.Need-returns
-returns c = ?
+unfolding isLocked
+returns c = simp (c .before .from .ensures .borrowed)
 
 pub is-locked-spec : {M : Type 1} → statement M
 is-locked-spec = tie.close (tie.spec from-requires returns)

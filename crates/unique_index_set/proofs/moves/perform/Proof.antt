@@ -1,3 +1,7 @@
+use borrow.Author.Tests.{ltb-true}
+use mathlib.Core.Path.{refl}
+use borrow.Author.Tests.{ne-eqb}
+use borrow.Author.Tests.{eq-eqb}
 use borrow.Author.Needs.{needs}
 use Rattle.unique_index_set.proofs.moves.perform.Statement.{statement}
 use Rattle.unique_index_set.proofs.moves.perform.Tie as tie
@@ -14,7 +18,7 @@ enum-known-access c = search needs
 
 -- src/moves.rt:61:17
 returns : tie.Need-returns
-returns c = ?
+returns c = simp (eq-eqb _ _ (c .if1 .taken), c .before .before .access .given .1) (refl, refl, refl)
 
 -- src/moves.rt:79:22
 enum-known-access-2 : tie.Need-enum-known-access-2
@@ -30,7 +34,7 @@ mul-value c = search needs
 
 -- src/moves.rt:81:25
 slice-read-value : tie.Need-slice-read-value
-slice-read-value c = ?
+slice-read-value c = ltb-true _ _ (rw (c .before .before .before .access2 .given .1) at (c .before .before .before .before .before .pre))
 
 -- src/moves.rt:91:23
 enum-known-access-3 : tie.Need-enum-known-access-3
@@ -46,19 +50,19 @@ mul-slots c = search needs
 
 -- src/moves.rt:93:13
 slice-write-slots : tie.Need-slice-write-slots
-slice-write-slots c = ?
+slice-write-slots c = ltb-true _ _ (rw (c .before .before .access3 .given .1) at (c .before .before .before .before .pre))
 
 -- src/moves.rt:46:1
 returns-2 : tie.Need-returns-2
-returns-2 c = ?
+returns-2 c = simp (c .enum-told .given .1) (refl, refl, refl)
 
 -- src/moves.rt:46:1
 returns-3 : tie.Need-returns-3
-returns-3 c = ?
+returns-3 c = simp (ne-eqb _ _ (c .if1 .left), c .before .before .access .given .1) (refl, refl, refl)
 
 -- src/moves.rt:46:1
 returns-4 : tie.Need-returns-4
-returns-4 c = ?
+returns-4 c = simp (c .before .before .before .access2 .given .1) (refl, refl, refl)
 
 -- src/moves.rt:46:1
 same-length : tie.Need-same-length
@@ -66,7 +70,7 @@ same-length c = search needs
 
 -- src/moves.rt:46:1
 returns-5 : tie.Need-returns-5
-returns-5 c = ?
+returns-5 c = simp (c .before .before .access3 .given .1) (refl, refl, refl)
 
 pub perform-spec : {M : Type 1} → statement M
 perform-spec =

@@ -1,3 +1,5 @@
+use mathlib.Core.Path.{refl}
+use Rattle.unique_index_set.specs.Moves.{releaseLooked}
 use borrow.Author.Needs.{needs}
 use Rattle.unique_index_set.proofs.moves.release_looked.Statement.{statement}
 use Rattle.unique_index_set.proofs.moves.release_looked.Tie as tie
@@ -11,11 +13,13 @@ may-release-requires c κs = search needs
 
 -- src/moves.rt:197:9
 returns : tie.Need-returns
-returns c = ?
+unfolding releaseLooked
+returns c = simp (← c .before .may-release .ensures, c .if1 .taken)
 
 -- src/moves.rt:193:1
 returns-2 : tie.Need-returns-2
-returns-2 c = ?
+unfolding releaseLooked
+returns-2 c = simp (← c .before .may-release .ensures, c .if1 .left)
 
 pub release-looked-spec : {M : Type 1} → statement M
 release-looked-spec = tie.close (tie.spec may-release-requires returns returns-2)

@@ -1,3 +1,6 @@
+use mathlib.Core.Path.{refl}
+use borrow.Author.Tests.{ne-eqb}
+use borrow.Author.Tests.{eq-eqb}
 use borrow.Author.Needs.{needs}
 use Rattle.unique_index_set.proofs.moves.release_state.Statement.{statement}
 use Rattle.unique_index_set.proofs.moves.release_state.Tie as tie
@@ -19,7 +22,7 @@ enum-told-2 c = search needs
 
 -- src/moves.rt:211:17
 returns : tie.Need-returns
-returns c = ?
+returns c = simp (← c .before .before .before .before .from .ensures .borrowed, eq-eqb _ _ (c .if1 .taken), c .before .before .enum-told2 .given .1)
 
 -- src/moves.rt:203:1
 returns-2 : tie.Need-returns-2
@@ -27,7 +30,7 @@ returns-2 c = search needs
 
 -- src/moves.rt:203:1
 returns-3 : tie.Need-returns-3
-returns-3 c = ?
+returns-3 c = simp (← c .before .before .before .before .from .ensures .borrowed, ne-eqb _ _ (c .if1 .left), c .before .before .enum-told2 .given .1)
 
 pub release-state-spec : {M : Type 1} → statement M
 release-state-spec =

@@ -1,3 +1,4 @@
+use Rattle.unique_index_set.specs.Moves.{releasedWord}
 use borrow.Author.Needs.{needs}
 use Rattle.unique_index_set.proofs.moves.released_word.Statement.{statement}
 use Rattle.unique_index_set.proofs.moves.released_word.Tie as tie
@@ -26,7 +27,8 @@ value-requires c κs = search needs
 
 -- src/moves.rt:136:1
 returns : tie.Need-returns
-returns c = ?
+unfolding releasedWord
+returns c = simp (c .value .ensures, c .before .released-count .ensures, c .before .before .wrapping-add-u16 .ensures, c .before .before .before .from .ensures .aba, c .before .before .before .from .ensures .borrowed)
 
 pub released-word-spec : {M : Type 1} → statement M
 released-word-spec =

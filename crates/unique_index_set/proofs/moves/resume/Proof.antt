@@ -1,3 +1,4 @@
+use mathlib.Core.Path.{refl}
 use borrow.Author.Needs.{needs}
 use Rattle.unique_index_set.proofs.moves.resume.Statement.{statement}
 use Rattle.unique_index_set.proofs.moves.resume.Tie as tie
@@ -32,7 +33,7 @@ from-requires c κs = search needs
 
 -- src/moves.rt:246:17
 returns : tie.Need-returns
-returns c = ?
+returns c = simp (← c .before .from .ensures .head, c .before .before .if1 .taken, c .before .before .before .before .place2 .given .1)
 
 -- src/moves.rt:248:13
 acquire-looked-requires-2 : tie.Need-acquire-looked-requires-2
@@ -64,7 +65,7 @@ release-state-requires c κs = search needs
 
 -- src/moves.rt:260:17
 returns-2 : tie.Need-returns-2
-returns-2 c = ?
+returns-2 c = simp (c .release-state .ensures, c .before .if2 .taken, c .before .before .before .place6 .given .1)
 
 -- src/moves.rt:262:13
 release-looked-requires-2 : tie.Need-release-looked-requires-2
@@ -88,39 +89,39 @@ is-locked-requires c κs = search needs
 
 -- src/moves.rt:236:1
 returns-3 : tie.Need-returns-3
-returns-3 c = ?
+returns-3 c = simp (c .acquire-looked .ensures, c .before .enum-told .given .1)
 
 -- src/moves.rt:236:1
 returns-4 : tie.Need-returns-4
-returns-4 c = ?
+returns-4 c = simp (c .before .place .given .1)
 
 -- src/moves.rt:236:1
 returns-5 : tie.Need-returns-5
-returns-5 c = ?
+returns-5 c = simp (c .acquire-looked2 .ensures, c .before .if1 .left, c .before .before .before .place2 .given .1)
 
 -- src/moves.rt:236:1
 returns-6 : tie.Need-returns-6
-returns-6 c = ?
+returns-6 c = simp (c .before .place3 .given .1)
 
 -- src/moves.rt:236:1
 returns-7 : tie.Need-returns-7
-returns-7 c = ?
+returns-7 c = simp (c .release-looked .ensures, c .before .before .place4 .given .1)
 
 -- src/moves.rt:236:1
 returns-8 : tie.Need-returns-8
-returns-8 c = ?
+returns-8 c = simp (c .before .place5 .given .1)
 
 -- src/moves.rt:236:1
 returns-9 : tie.Need-returns-9
-returns-9 c = ?
+returns-9 c = simp (c .release-looked2 .ensures, c .before .if2 .left, c .before .before .before .place6 .given .1)
 
 -- src/moves.rt:236:1
 returns-10 : tie.Need-returns-10
-returns-10 c = ?
+returns-10 c = simp (c .borrowed-indices .ensures, c .before .enum-told2 .given .1)
 
 -- src/moves.rt:236:1
 returns-11 : tie.Need-returns-11
-returns-11 c = ?
+returns-11 c = simp (c .is-locked .ensures, c .before .enum-told3 .given .1)
 
 pub resume-spec : {M : Type 1} → statement M
 resume-spec =

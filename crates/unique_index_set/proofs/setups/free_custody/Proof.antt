@@ -1,49 +1,57 @@
+use Rattle.unique_index_set.specs.Setups.{freeEntry}
+use Rattle.thread_records.proofs.Filled.{filled-none, filled-more}
+use Rattle.thread_records.specs.Filled.{filled}
+use borrow.Author.Needs.{needs}
+use lib.ListN.{length, length-set}
+use native.Mathlib.Omega.{arith}
+use mathlib.Core.Path.{_≡_, refl}
+use Prim.Native.Nat.{_+_, _-_, _≤_}
 use Rattle.unique_index_set.proofs.setups.free_custody.Statement.{statement}
 use Rattle.unique_index_set.proofs.setups.free_custody.Tie as tie
 use Rattle.unique_index_set.proofs.setups.free_custody.Reads as reads
 use Rattle.unique_index_set.proofs.setups.free_custody.Lts as lts
 
 abbrev Inv-loop : tie.InvT-loop
-Inv-loop custody₀ n i₀ custody i = ?
+Inv-loop custody₀ n i₀ custody i = (i ≤ n) × (custody ≡ filled freeEntry i custody₀) × (length custody ≡ length custody₀)
 
 abbrev μ-loop : tie.MeasureT-loop
-μ-loop custody₀ n i₀ custody i = ?
+μ-loop custody₀ n i₀ custody i = n - i
 
 -- src/setups.rt:38:5
 loop-holds : tie.Need-loop-holds Inv-loop μ-loop
-loop-holds c = ?
+loop-holds c = (omega arith, filled-none _ _, refl)
 
 -- src/setups.rt:39:18
 cast-at : tie.Need-cast-at Inv-loop μ-loop
-cast-at c = ?
+cast-at c = search needs
 
 -- src/setups.rt:40:9
 mul-custody : tie.Need-mul-custody Inv-loop μ-loop
-mul-custody c = ?
+mul-custody c = search needs
 
 -- src/setups.rt:40:9
 slice-write-custody : tie.Need-slice-write-custody Inv-loop μ-loop
-slice-write-custody c = ?
+slice-write-custody c = omega arith
 
 -- src/setups.rt:41:9
 add-i : tie.Need-add-i Inv-loop μ-loop
-add-i c = ?
+add-i c = search needs
 
 -- src/setups.rt:38:5
 loop-less : tie.Need-loop-less Inv-loop μ-loop
-loop-less c = ?
+loop-less c = omega arith
 
 -- src/setups.rt:38:5
 loop-again : tie.Need-loop-again Inv-loop μ-loop
-loop-again c = ?
+loop-again c = let v = c .before .loop .inv in (omega arith, filled-more freeEntry _ _ _ (v .1), simp length-set (v .2))
 
 -- src/setups.rt:33:1
 same-length : tie.Need-same-length Inv-loop μ-loop
-same-length c = ?
+same-length c = c .before .loop .inv .2
 
 -- src/setups.rt:33:1
 returns : tie.Need-returns Inv-loop μ-loop
-returns c = ?
+returns c = let v = c .before .loop .inv in let e : c .before .loop .i ≡ c .before .before .args .n = omega arith in rw (← e) (v .1)
 
 pub free-custody-spec : {M : Type 1} → statement M
 free-custody-spec =

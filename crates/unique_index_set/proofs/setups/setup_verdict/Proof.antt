@@ -1,3 +1,4 @@
+use Rattle.unique_index_set.specs.Setups.{setupVerdict}
 use borrow.Author.Needs.{needs}
 use Rattle.unique_index_set.proofs.setups.setup_verdict.Statement.{statement}
 use Rattle.unique_index_set.proofs.setups.setup_verdict.Tie as tie
@@ -21,7 +22,8 @@ verdict-requires c κs = search needs
 
 -- src/setups.rt:66:1
 returns : tie.Need-returns
-returns c = ?
+unfolding setupVerdict
+returns c = simp (c .verdict .ensures, c .before .is-setup-short .ensures, c .before .before .is-too-large .ensures)
 
 pub setup-verdict-spec : {M : Type 1} → statement M
 setup-verdict-spec =

@@ -39,7 +39,7 @@ returns c = search needs
 
 -- src/starts.rt:56:1
 returns-2 : tie.Need-returns-2
-returns-2 c = ?
+returns-2 c = simp (c .asked-release .ensures, c .before .enum-told2 .given .1)
 
 -- src/starts.rt:56:1
 returns-3 : tie.Need-returns-3

@@ -1,3 +1,5 @@
+use mathlib.Core.Path.{refl}
+use Rattle.unique_index_set.specs.Starts.{askedOf}
 use borrow.Author.Needs.{needs}
 use Rattle.unique_index_set.proofs.starts.asked_of.Statement.{statement}
 use Rattle.unique_index_set.proofs.starts.asked_of.Tie as tie
@@ -24,11 +26,13 @@ enum-told c = search needs
 
 -- src/starts.rt:69:1
 returns : tie.Need-returns
-returns c = ?
+unfolding askedOf
+returns c = simp (c .asked-call .ensures, ← c .before .before .before .before .read-call .ensures, c .before .before .read .given .1)
 
 -- src/starts.rt:69:1
 returns-2 : tie.Need-returns-2
-returns-2 c = ?
+unfolding askedOf
+returns-2 c = simp (← c .before .before .read-call .ensures, c .enum-told .given .1)
 
 pub asked-of-spec : {M : Type 1} → statement M
 asked-of-spec =

@@ -1,3 +1,5 @@
+use mathlib.Core.Path.{refl}
+use Rattle.unique_index_set.specs.Starts.{askedRelease}
 use borrow.Author.Needs.{needs}
 use Rattle.unique_index_set.proofs.starts.asked_release.Statement.{statement}
 use Rattle.unique_index_set.proofs.starts.asked_release.Tie as tie
@@ -19,11 +21,13 @@ enum-told c = search needs
 
 -- src/starts.rt:46:1
 returns : tie.Need-returns
-returns c = ?
+unfolding askedRelease
+returns c = simp (← c .before .before .before .read-mode .ensures, c .before .mode .given .1)
 
 -- src/starts.rt:46:1
 returns-2 : tie.Need-returns-2
-returns-2 c = ?
+unfolding askedRelease
+returns-2 c = simp (← c .before .before .read-mode .ensures, c .enum-told .given .1)
 
 pub asked-release-spec : {M : Type 1} → statement M
 asked-release-spec =

@@ -21,7 +21,7 @@ accepted-requires c κs = search needs
 
 -- src/starts.rt:154:1
 returns : tie.Need-returns
-returns c = ?
+returns c = simp (c .accepted .ensures, c .before .live-record .ensures, c .before .before .close .ensures)
 
 pub enter-spec : {M : Type 1} → statement M
 enter-spec = tie.close (tie.spec close-requires live-record-requires accepted-requires returns)

@@ -1,3 +1,6 @@
+use Rattle.unique_index_set.specs.Starts.{startOf}
+use mathlib.Core.Path.{sym, _∙_}
+use Rattle.unique_index_set.proofs.Accepted.{start-mark-within}
 use borrow.Author.Needs.{needs}
 use Rattle.unique_index_set.proofs.starts.start.Statement.{statement}
 use Rattle.unique_index_set.proofs.starts.start.Tie as tie
@@ -36,7 +39,7 @@ start-mark-requires c κs = search needs
 
 -- src/starts.rt:190:13
 put-mark-requires : tie.Need-put-mark-requires
-put-mark-requires c κs = ?
+put-mark-requires c κs = let v = c .before .before .before .before in let s = c .before .before .before .before .before .before .before .before .before .before in rw (c .before .start-mark .ensures) (start-mark-within _ _ _ _ _ (c .before .before .before .before .before .before .asked-of .result) (s .args .thread) (sym (v .start-verdict .ensures) ∙ c .before .before .enum-told .given .1))
 
 -- src/starts.rt:192:46
 enum-told-2 : tie.Need-enum-told-2
@@ -84,7 +87,8 @@ same-length c = search needs
 
 -- src/starts.rt:165:1
 returns : tie.Need-returns
-returns c = ?
+unfolding startOf
+returns c = simp (c .turned-away .ensures, ← c .before .before .before .before .before .before .asked-of .ensures, ← c .before .before .before .before .start-verdict .ensures, c .before .before .verdict .given .1)
 
 -- src/starts.rt:165:1
 same-length-2 : tie.Need-same-length-2
@@ -92,7 +96,8 @@ same-length-2 c = search needs
 
 -- src/starts.rt:165:1
 returns-2 : tie.Need-returns-2
-returns-2 c = ?
+unfolding startOf
+returns-2 c = simp (c .enter .ensures, c .before .before .before .before .before .put-mark .ensures, c .before .before .before .before .before .before .before .start-mark .ensures, ← c .before .before .before .before .before .before .before .before .before .before .before .before .asked-of .ensures, ← c .before .before .before .before .before .before .before .before .before .before .start-verdict .ensures) (simp (c .before .before .before .before .before .before .before .before .enum-told .given .1, c .before .enum-told2 .given .1))
 
 -- src/starts.rt:165:1
 same-length-3 : tie.Need-same-length-3
@@ -100,7 +105,8 @@ same-length-3 c = search needs
 
 -- src/starts.rt:165:1
 returns-3 : tie.Need-returns-3
-returns-3 c = ?
+unfolding startOf
+returns-3 c = simp (c .enter2 .ensures, c .before .before .before .before .before .before .put-mark .ensures, c .before .before .before .before .before .before .before .before .start-mark .ensures, ← c .before .before .before .before .before .before .before .before .before .before .before .before .before .asked-of .ensures, ← c .before .before .before .before .before .before .before .before .before .before .before .start-verdict .ensures) (simp (c .before .before .before .before .before .before .before .before .before .enum-told .given .1, c .before .before .asked .given .1))
 
 -- src/starts.rt:165:1
 same-length-4 : tie.Need-same-length-4
@@ -108,7 +114,8 @@ same-length-4 c = search needs
 
 -- src/starts.rt:165:1
 returns-4 : tie.Need-returns-4
-returns-4 c = ?
+unfolding startOf
+returns-4 c = simp (c .enter3 .ensures, c .before .before .before .before .before .put-mark .ensures, c .before .before .before .before .before .before .before .start-mark .ensures, ← c .before .before .before .before .before .before .before .before .before .before .before .before .asked-of .ensures, ← c .before .before .before .before .before .before .before .before .before .before .start-verdict .ensures) (simp (c .before .before .before .before .before .before .before .before .enum-told .given .1, c .before .enum-told3 .given .1))
 
 -- src/starts.rt:165:1
 same-length-5 : tie.Need-same-length-5
@@ -116,7 +123,8 @@ same-length-5 c = search needs
 
 -- src/starts.rt:165:1
 returns-5 : tie.Need-returns-5
-returns-5 c = ?
+unfolding startOf
+returns-5 c = simp (c .enter4 .ensures, c .before .before .before .before .before .put-mark .ensures, c .before .before .before .before .before .before .before .start-mark .ensures, ← c .before .before .before .before .before .before .before .before .before .before .before .before .asked-of .ensures, ← c .before .before .before .before .before .before .before .before .before .before .start-verdict .ensures) (simp (c .before .before .before .before .before .before .before .before .enum-told .given .1, c .before .enum-told4 .given .1))
 
 -- src/starts.rt:165:1
 same-length-6 : tie.Need-same-length-6
@@ -124,7 +132,8 @@ same-length-6 c = search needs
 
 -- src/starts.rt:165:1
 returns-6 : tie.Need-returns-6
-returns-6 c = ?
+unfolding startOf
+returns-6 c = simp (c .turned-away2 .ensures, c .before .before .before .before .before .put-mark .ensures, c .before .before .before .before .before .before .before .start-mark .ensures, ← c .before .before .before .before .before .before .before .before .before .before .before .before .asked-of .ensures, ← c .before .before .before .before .before .before .before .before .before .before .start-verdict .ensures) (simp (c .before .before .before .before .before .before .before .before .enum-told .given .1, c .before .enum-told5 .given .1))
 
 pub start-spec : {M : Type 1} → statement M
 start-spec =

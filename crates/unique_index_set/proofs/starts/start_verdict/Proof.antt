@@ -1,3 +1,4 @@
+use Rattle.unique_index_set.specs.Starts.{startVerdict}
 use borrow.Author.Needs.{needs}
 use Rattle.unique_index_set.proofs.starts.start_verdict.Statement.{statement}
 use Rattle.unique_index_set.proofs.starts.start_verdict.Tie as tie
@@ -36,7 +37,8 @@ verdict-requires c κs = search needs
 
 -- src/starts.rt:116:1
 returns : tie.Need-returns
-returns c = ?
+unfolding startVerdict
+returns c = simp (c .verdict .ensures, c .before .is-not-held .ensures, c .before .before .is-out-of-range .ensures, c .before .before .before .is-not-known .ensures, c .before .before .before .before .is-not-idle .ensures, c .before .before .before .before .before .is-too-short .ensures)
 
 pub start-verdict-spec : {M : Type 1} → statement M
 start-verdict-spec =

@@ -1,3 +1,5 @@
+use Rattle.unique_index_set.specs.Steps.{advanced, sharedAfter}
+use Rattle.unique_index_set.proofs.Sound.{access-within, mark-within}
 use borrow.Author.Needs.{needs}
 use Rattle.unique_index_set.proofs.steps.advance.Statement.{statement}
 use Rattle.unique_index_set.proofs.steps.advance.Tie as tie
@@ -17,7 +19,7 @@ access-at-requires c κs = search needs
 
 -- src/steps.rt:71:9
 perform-requires : tie.Need-perform-requires
-perform-requires c κs = ?
+perform-requires c κs = let s = c .before .before .before .before in rw (c .before .access-at .ensures) (access-within _ _ (s .args .place) (s .pre .0) (s .pre .2))
 
 -- src/steps.rt:73:9
 mark-at-requires : tie.Need-mark-at-requires
@@ -25,7 +27,7 @@ mark-at-requires c κs = search needs
 
 -- src/steps.rt:74:5
 put-mark-requires : tie.Need-put-mark-requires
-put-mark-requires c κs = ?
+put-mark-requires c κs = let s = c .before .before .before .before .before .before .before .before .before .before in rw (c .before .mark-at .ensures) (mark-within _ _ _ (s .args .place) _ (s .pre .0) (s .pre .3))
 
 -- src/steps.rt:75:9
 resume-requires : tie.Need-resume-requires
@@ -49,7 +51,8 @@ same-length-2 c = search needs
 
 -- src/steps.rt:58:1
 returns : tie.Need-returns
-returns c = ?
+unfolding advanced sharedAfter
+returns c = simp (c .report-after .ensures, c .before .thread-after .ensures, c .before .before .resume .ensures, c .before .before .before .before .before .put-mark .ensures, c .before .before .before .before .before .before .before .mark-at .ensures, c .before .before .before .before .before .before .before .before .before .before .before .perform .ensures .0, c .before .before .before .before .before .before .before .before .before .before .before .perform .ensures .1, c .before .before .before .before .before .before .before .before .before .before .before .perform .ensures .2, c .before .before .before .before .before .before .before .before .before .before .before .before .before .access-at .ensures)
 
 pub advance-spec : {M : Type 1} → statement M
 advance-spec =

@@ -28,7 +28,7 @@ returns c = search needs
 
 -- src/steps.rt:48:1
 returns-2 : tie.Need-returns-2
-returns-2 c = ?
+returns-2 c = simp (c .answered .ensures, c .before .before .next .given .1)
 
 pub report-after-spec : {M : Type 1} → statement M
 report-after-spec =

@@ -1,3 +1,6 @@
+use Rattle.unique_index_set.specs.Steps.{stepOf}
+use mathlib.Core.Path.{sym, _∙_}
+use Rattle.unique_index_set.proofs.Accepted.{step-may}
 use borrow.Author.Needs.{needs}
 use Rattle.unique_index_set.proofs.steps.step.Statement.{statement}
 use Rattle.unique_index_set.proofs.steps.step.Tie as tie
@@ -34,7 +37,7 @@ enum-known-opened c = search needs
 
 -- src/steps.rt:171:34
 advance-requires : tie.Need-advance-requires
-advance-requires c κs = ?
+advance-requires c κs = let v = c .before .before .before .before .before .before .before in let s = c .before .before .before .before .before .before .before .before .before .before .before .before .before in step-may _ _ _ _ _ (s .args .thread) (s .args .thread .call) (sym (v .step-verdict .ensures) ∙ c .before .before .before .before .before .enum-told .given .1) (v .before .«open» .ensures) (c .before .before .before .opened .given .1)
 
 -- src/steps.rt:172:57
 enum-told-2 : tie.Need-enum-told-2
@@ -46,7 +49,8 @@ turned-away-requires-2 c κs = search needs
 
 -- src/steps.rt:145:1
 returns : tie.Need-returns
-returns c = ?
+unfolding stepOf
+returns c = simp (c .turned-away .ensures, ← c .before .before .before .before .before .«open» .ensures, ← c .before .before .before .before .step-verdict .ensures, c .before .before .verdict .given .1)
 
 -- src/steps.rt:145:1
 same-length : tie.Need-same-length
@@ -58,11 +62,13 @@ same-length-2 c = search needs
 
 -- src/steps.rt:145:1
 returns-2 : tie.Need-returns-2
-returns-2 c = ?
+unfolding stepOf
+returns-2 c = simp (c .before .before .before .before .advance .ensures, ← c .before .before .before .before .before .before .before .before .before .before .before .before .before .«open» .ensures, ← c .before .before .before .before .before .before .before .before .before .before .before .before .step-verdict .ensures) (simp (c .before .before .before .before .before .before .before .before .before .before .enum-told .given .1, c .before .before .before .before .before .before .before .before .opened .given .1))
 
 -- src/steps.rt:145:1
 returns-3 : tie.Need-returns-3
-returns-3 c = ?
+unfolding stepOf
+returns-3 c = simp (c .turned-away2 .ensures, ← c .before .before .before .before .before .before .«open» .ensures, ← c .before .before .before .before .before .step-verdict .ensures) (simp (c .before .before .before .enum-told .given .1, c .before .enum-told2 .given .1))
 
 pub step-spec : {M : Type 1} → statement M
 step-spec =

@@ -1,3 +1,4 @@
+use Rattle.unique_index_set.specs.Steps.{stepVerdict}
 use borrow.Author.Needs.{needs}
 use Rattle.unique_index_set.proofs.steps.step_verdict.Statement.{statement}
 use Rattle.unique_index_set.proofs.steps.step_verdict.Tie as tie
@@ -26,7 +27,8 @@ verdict-requires c κs = search needs
 
 -- src/steps.rt:110:1
 returns : tie.Need-returns
-returns c = ?
+unfolding stepVerdict
+returns c = simp (c .verdict .ensures, c .before .is-damaged .ensures, c .before .before .is-not-calling .ensures, c .before .before .before .is-too-short .ensures)
 
 pub step-verdict-spec : {M : Type 1} → statement M
 step-verdict-spec =

@@ -29,11 +29,11 @@ idle-record-requires c κs = search needs
 
 -- src/steps.rt:39:1
 returns : tie.Need-returns
-returns c = ?
+returns c = simp (c .live-record .ensures, c .before .close .ensures, c .before .before .before .next .given .1)
 
 -- src/steps.rt:39:1
 returns-2 : tie.Need-returns-2
-returns-2 c = ?
+returns-2 c = simp (c .idle-record .ensures, c .before .enum-told .given .1)
 
 pub thread-after-spec : {M : Type 1} → statement M
 thread-after-spec =

@@ -11,7 +11,7 @@ refused-requires c κs = search needs
 
 -- src/steps.rt:134:1
 returns : tie.Need-returns
-returns c = ?
+returns c = simp (c .refused .ensures)
 
 pub turned-away-spec : {M : Type 1} → statement M
 turned-away-spec = tie.close (tie.spec refused-requires returns)
