@@ -10,7 +10,7 @@ use Rattle.calls.specs.declared.Tests.{Tests}
 use Rattle.calls.specs.declared.Verdict.{Verdict}
 use Rattle.calls.specs.declared.Verdict.the-variants.{Accepted, Refused}
 
--- 3, 4, 10, 9, 11, 13, 5, 7, 8
+-- 3, 4, 10, 9, 11, 13, 5, 7, 8; 12 is the reader's, and comes before any call is made
 abbrev pub refusalOrder : List Refusal
 refusalOrder =
     Capacity ProvidedCapacityGreaterThanMaxCapacity

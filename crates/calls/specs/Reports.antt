@@ -1,4 +1,4 @@
--- What is reported of an entry, where a step tells nothing beside its progress.
+-- What is reported where nothing is told beside the progress.
 use mathlib.Core.Bool.{Bool, true, false}
 use Rattle.calls.specs.declared.Answer.{Answer}
 use Rattle.calls.specs.declared.Refusal.{Refusal}

@@ -1,5 +1,5 @@
--- A custody entry: a byte for the kind, one for the holder, one for the giver. Free is exactly 0; what stands for nothing else is
--- unknown: nobody's, not held, not free.
+-- A custody entry: a byte for the kind, one for the holder, one for the giver. Free is exactly 0; anything else is unknown:
+-- nobody's, not held, not free. No call writes Unknown: all ones is one of the entries that read as it.
 use Prim.Native.Nat.{ℕ, _+_, _*_, _/_, _%_}
 use mathlib.Core.Bool.{cond}
 use lib.Dec.{eqb}

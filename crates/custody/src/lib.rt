@@ -12,7 +12,7 @@ pub enum Custody {
     Unknown,
 }
 
-// A byte for the kind, one for the holder, one for the giver. What stands for nothing is all ones.
+// A byte for the kind, one for the holder, one for the giver.
 fn entry(kind: u8, holder: u8, giver: u8) -> u32
     ensures { λ r. ⌜ r ≡ ownedBy kind holder giver ⌝ }
 {
@@ -20,6 +20,7 @@ fn entry(kind: u8, holder: u8, giver: u8) -> u32
 }
 
 impl Custody {
+    // No call writes Unknown: all ones is one of the entries that read as it.
     pub fn entry(self) -> u32
         ensures { λ r. ⌜ r ≡ entryOf self ⌝ }
     {

@@ -37,7 +37,7 @@ sound capacity (ReleaseExchange i m seen) = cond (ltb (i .0) capacity) (mayRelea
 sound capacity BorrowedLook = true
 sound capacity LockedLook = true
 
--- a place number of the other set or of none, and a release with an unknown mode, name no place
+-- the plain set's places are 1 to 9: any other number, and a release with an unknown mode, name no place
 abbrev pub releaseReadAs : ModeRead → Remembered → PlaceRead
 releaseReadAs mode.Unknown c = Unknown
 releaseReadAs (mode.Known m) c =

@@ -3,18 +3,18 @@ use Prim.Native.Nat.{ℕ}
 use mathlib.Core.Bool.{Bool, true, false, cond, not}
 use mathlib.Core.List.{List, [], _∷_}
 use lib.Dec.{leb, eqb}
-use Rattle.unique_index_set_enums.specs.declared.OwnerId.{OwnerId}
 use Rattle.unique_index_set_enums.specs.declared.RecordNumber.{RecordNumber}
 use Rattle.unique_index_set_enums.specs.Kinds.{index, owner, generation}
 use Rattle.thread_records.specs.declared.OwnerList.{OwnerList}
 use Rattle.thread_records.specs.declared.Remembered.{Remembered}
 use Rattle.thread_records.specs.declared.Record.{Record}
 
-abbrev nobody : OwnerId
-nobody = owner 0
-
+-- owners beyond the count are 0
 abbrev pub emptyList : OwnerList
-emptyList = record { count = 0; owners = nobody ∷ nobody ∷ nobody ∷ nobody ∷ nobody ∷ nobody ∷ nobody ∷ nobody ∷ [] }
+emptyList = record {
+  count = 0;
+  owners = owner 0 ∷ owner 0 ∷ owner 0 ∷ owner 0 ∷ owner 0 ∷ owner 0 ∷ owner 0 ∷ owner 0 ∷ [];
+}
 
 abbrev pub idleCall : Remembered
 idleCall = record {
@@ -48,10 +48,10 @@ markedDead t = record { dead = true; call = t .call; list = t .list }
 unfoldable pub notAlive : Record → ℕ → RecordNumber → Bool
 notAlive t records who = cond (leb records (who .0)) true (t .dead)
 
--- nor is it busy: refusal 9 of a start or a list
+-- or it is busy: refusal 9 of a start or a list
 unfoldable pub notIdle : Record → ℕ → RecordNumber → Bool
 notIdle t records who = cond (notAlive t records who) true (not (eqb (t .call .place) 0))
 
--- nor is it idle: refusal 9 of a step or a drain
+-- or it is idle: refusal 9 of a step or a drain
 unfoldable pub notCalling : Record → ℕ → RecordNumber → Bool
 notCalling t records who = cond (notAlive t records who) true (eqb (t .call .place) 0)

@@ -18,7 +18,8 @@ pub struct OwnerList {
     pub owners: [OwnerId; 8],
 }
 
-// Where a record's call stands and what it remembers; place 0 is no call. Of the rest each place reads a part.
+// Where a record's call stands and what it remembers. Place 0 is no call, 1 to 9 are the plain set's, 16 and above the
+// robust set's; of the rest each place reads a part.
 pub struct Remembered {
     pub place: u8,
     pub mode: u8,

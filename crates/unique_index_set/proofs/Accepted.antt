@@ -33,41 +33,41 @@ pub record Roomy (capacity m n : ℕ) : Type 0 where
   pub slots : capacity < m
   pub custody : capacity ≤ n
 
-roomy : (capacity records slots custody : ℕ) → ltb plainCapacityLimit capacity ≡ false → tooShort capacity records slots custody ≡ false → Roomy capacity slots custody
+roomy : (records capacity slots custody : ℕ) → ltb plainCapacityLimit capacity ≡ false → tooShort records capacity slots custody ≡ false → Roomy capacity slots custody
 unfolding tooShort
-roomy capacity records slots custody a e =
+roomy records capacity slots custody a e =
     let f = both-false (ltb recordsLimit records) e .1 in
     let g = both-false (leb slots capacity) f in
     record { small = omega (arith, ltb-false plainCapacityLimit capacity a); slots = leb-false slots capacity (g .0); custody = ltb-false custody capacity (g .1) }
 
-pub step-roomy : (capacity records : ℕ) (who : RecordNumber) (slots custody : ℕ) (opened : Opened) (t : Record)
-    → stepVerdict capacity records who slots custody opened t ≡ Accepted → Roomy capacity slots custody
+pub step-roomy : (records : ℕ) (who : RecordNumber) (capacity slots custody : ℕ) (opened : Opened) (t : Record)
+    → stepVerdict records who capacity slots custody opened t ≡ Accepted → Roomy capacity slots custody
 unfolding stepVerdict
-step-roomy capacity records who slots custody opened t e =
-    let a = accepted (stepTests capacity records who slots custody opened t) e in
-    roomy capacity records slots custody (a .above) (a .short)
+step-roomy records who capacity slots custody opened t e =
+    let a = accepted (stepTests records who capacity slots custody opened t) e in
+    roomy records capacity slots custody (a .above) (a .short)
 
-pub start-roomy : (capacity records : ℕ) (who : RecordNumber) (slots : ℕ) (custody : List ℕ) (asked : Asked) (t : Record)
-    → startVerdict capacity records who slots custody asked t ≡ Accepted → Roomy capacity slots (length custody)
+pub start-roomy : (records : ℕ) (who : RecordNumber) (capacity slots : ℕ) (custody : List ℕ) (asked : Asked) (t : Record)
+    → startVerdict records who capacity slots custody asked t ≡ Accepted → Roomy capacity slots (length custody)
 unfolding startVerdict
-start-roomy capacity records who slots custody asked t e =
-    let a = accepted (startTests capacity records who slots custody asked t) e in
-    roomy capacity records slots (length custody) (a .above) (a .short)
+start-roomy records who capacity slots custody asked t e =
+    let a = accepted (startTests records who capacity slots custody asked t) e in
+    roomy records capacity slots (length custody) (a .above) (a .short)
 
-pub setup-roomy : (capacity records slots custody : ℕ) → setupVerdict capacity records slots custody ≡ Accepted → Roomy capacity slots custody
+pub setup-roomy : (records capacity slots custody : ℕ) → setupVerdict records capacity slots custody ≡ Accepted → Roomy capacity slots custody
 unfolding setupVerdict tooLarge setupShort
-setup-roomy capacity records slots custody e =
-    let a = accepted (setupTests capacity records slots custody) e in
+setup-roomy records capacity slots custody e =
+    let a = accepted (setupTests records capacity slots custody) e in
     let f = both-false (ltb plainCapacityLimit capacity) (a .above) in
     let g = both-false (ltb recordsLimit records) (a .short) in
     record { small = omega (arith, ltb-false plainCapacityLimit capacity (f .0)); slots = leb-false slots capacity (f .1); custody = ltb-false custody capacity (g .1) }
 
 -- what a step at a place that opened requires
-pub step-may : (capacity records : ℕ) (who : RecordNumber) (slots custody : ℕ) (t : Record) (c : Remembered) {opened : Opened} {p : Place}
-    → stepVerdict capacity records who slots custody opened t ≡ Accepted → opened ≡ openedAt capacity c → opened ≡ At p
+pub step-may : (records : ℕ) (who : RecordNumber) (capacity slots custody : ℕ) (t : Record) (c : Remembered) {opened : Opened} {p : Place}
+    → stepVerdict records who capacity slots custody opened t ≡ Accepted → opened ≡ openedAt capacity c → opened ≡ At p
     → (sound capacity p ≡ true) × (capacity < 2 ^ 24) × (capacity < slots) × (capacity ≤ custody)
-step-may capacity records who slots custody t c {opened} {p} e o q =
-    let r = step-roomy capacity records who slots custody opened t e in
+step-may records who capacity slots custody t c {opened} {p} e o q =
+    let r = step-roomy records who capacity slots custody opened t e in
     (opened-sound capacity c p (rw o at q), omega arith, r .slots, r .custody)
 
 mark-in : (capacity n : ℕ) (who : RecordNumber) (asked : Asked) → isOutOfRange capacity asked ≡ false → capacity ≤ n → markWithin n (startMark who asked) ≡ true
@@ -78,9 +78,9 @@ mark-in capacity n who IsLocked e h = refl
 mark-in capacity n who NotKnown e h = refl
 
 -- what a start marks is within the custody buffer
-pub start-mark-within : (capacity records : ℕ) (who : RecordNumber) (slots : ℕ) (custody : List ℕ) (asked : Asked) (t : Record)
-    → startVerdict capacity records who slots custody asked t ≡ Accepted → markWithin (length custody) (startMark who asked) ≡ true
+pub start-mark-within : (records : ℕ) (who : RecordNumber) (capacity slots : ℕ) (custody : List ℕ) (asked : Asked) (t : Record)
+    → startVerdict records who capacity slots custody asked t ≡ Accepted → markWithin (length custody) (startMark who asked) ≡ true
 unfolding startVerdict
-start-mark-within capacity records who slots custody asked t e =
-    let a = accepted (startTests capacity records who slots custody asked t) e in
-    mark-in capacity (length custody) who asked (a .range) (start-roomy capacity records who slots custody asked t e .custody)
+start-mark-within records who capacity slots custody asked t e =
+    let a = accepted (startTests records who capacity slots custody asked t) e in
+    mark-in capacity (length custody) who asked (a .range) (start-roomy records who capacity slots custody asked t e .custody)

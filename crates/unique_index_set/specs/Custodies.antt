@@ -33,7 +33,7 @@ markAt who (ReleaseExchange i m seen) saw = cond (saw .won) (As i Free) (release
 markAt who BorrowedLook saw = Nothing
 markAt who LockedLook saw = Nothing
 
--- the mark is within n entries
+-- the mark is within n entries (asked of `put_mark`; a sound place's always is)
 abbrev pub markWithin : ℕ → Mark → Bool
 markWithin n Nothing = true
 markWithin n (As i c) = ltb (i .0) n

@@ -1,4 +1,5 @@
--- A drain of one record: refused as a step is, at any budget; its steps are steps, until the answer or the budget's end.
+-- A drain of one record: refused as a step is, at any budget (13 does not arise, since no plain place is of find or recover); its
+-- steps are steps, until the answer or the budget's end.
 use Prim.Native.Nat.{ℕ}
 use mathlib.Core.List.{List}
 use Rattle.unique_index_set_enums.specs.declared.RecordNumber.{RecordNumber}

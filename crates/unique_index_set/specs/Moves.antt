@@ -52,7 +52,7 @@ accessAt capacity (ReleaseExchange i m seen) = Exchange seen (releasedWord i m s
 accessAt capacity BorrowedLook = Look
 accessAt capacity LockedLook = Look
 
--- the access is within n slots
+-- the access is within n slots (asked of `perform`; a sound place's always is)
 abbrev pub within : ℕ → Access → Bool
 within n Look = true
 within n (Exchange old new) = true
@@ -102,7 +102,8 @@ borrowedIndices w = cond (eqb (borrowedOf w) lockAcquire) 0 (borrowedOf w)
 unfoldable pub isLocked : ℕ → Bool
 isLocked w = eqb (borrowedOf w) lockAcquire
 
--- the local work after the access: a failed exchange is a look at the word that it found
+-- the local work after the access: a failed exchange is a look at the word that it found (417 to 420, 479 to 482), and the index
+-- won is the head that was seen (424)
 abbrev pub resumedAt : ℕ → Place → Saw → Next
 resumedAt capacity AcquireLook saw = acquireLooked capacity (saw .word)
 resumedAt capacity (AcquireRead seen) saw = Going (AcquireExchange seen (saw .value))

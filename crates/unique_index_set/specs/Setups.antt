@@ -14,13 +14,15 @@ use Rattle.thread_records.specs.declared.Record.{Record}
 use Rattle.thread_records.specs.Records.{emptyList, idleRecord}
 use Rattle.thread_records.specs.Effects.{Effect, judged}
 use Rattle.thread_records.specs.Filled.{filled}
+use Rattle.custody.specs.declared.Custody.the-variants.{Free}
+use Rattle.custody.specs.Entry.{entryOf}
 use Rattle.unique_index_set.specs.Steps.{Shared}
 
 abbrev pub nextIndex : ℕ → ℕ
 nextIndex i = i + 1
 
 abbrev pub freeEntry : ℕ → ℕ
-freeEntry i = 0
+freeEntry i = entryOf Free
 
 -- refusal 3 of a setup: above the limit, or too large for the slots
 unfoldable pub tooLarge : ℕ → ℕ → Bool
@@ -28,14 +30,14 @@ tooLarge capacity slots = cond (ltb plainCapacityLimit capacity) true (leb slots
 
 -- refusal 10 of a setup
 unfoldable pub setupShort : ℕ → ℕ → ℕ → Bool
-setupShort capacity records custody = cond (ltb recordsLimit records) true (ltb custody capacity)
+setupShort records capacity custody = cond (ltb recordsLimit records) true (ltb custody capacity)
 
 -- refusals 3, 4 and 10, where `slots` and `custody` are the buffers' lengths
 abbrev pub setupTests : ℕ → ℕ → ℕ → ℕ → Tests
-setupTests capacity records slots custody = record {
+setupTests records capacity slots custody = record {
   «capacity_above_limit» = tooLarge capacity slots;
   «capacity_zero» = eqb capacity 0;
-  «buffer_too_short» = setupShort capacity records custody;
+  «buffer_too_short» = setupShort records capacity custody;
   «record_not_ready» = false;
   «record_damaged» = false;
   «not_known» = false;
@@ -45,7 +47,7 @@ setupTests capacity records slots custody = record {
 }
 
 unfoldable pub setupVerdict : ℕ → ℕ → ℕ → ℕ → Verdict
-setupVerdict capacity records slots custody = verdictOf (setupTests capacity records slots custody)
+setupVerdict records capacity slots custody = verdictOf (setupTests records capacity slots custody)
 
 abbrev pub fresh : ℕ → Shared → Shared
 fresh capacity s = record {
@@ -56,5 +58,5 @@ fresh capacity s = record {
 
 unfoldable pub setupOf : ℕ → ℕ → Shared → Record → Effect Shared
 setupOf records capacity s t =
-    judged (setupVerdict capacity records (length (s .slots)) (length (s .custody))) s t
+    judged (setupVerdict records capacity (length (s .slots)) (length (s .custody))) s t
     (record { shared = fresh capacity s; thread = idleRecord emptyList; report = acceptedReport })

@@ -86,12 +86,13 @@ isNotHeld who BorrowedIndices custody = false
 isNotHeld who IsLocked custody = false
 isNotHeld who NotKnown custody = false
 
--- refusals 3, 4, 10, 9, 13, 7 and 8, where `slots` is that buffer's length
-abbrev pub startTests : ℕ → ℕ → RecordNumber → ℕ → List ℕ → Asked → Record → Tests
-startTests capacity records who slots custody asked t = record {
+-- refusals 3, 4, 10, 9, 13, 7 and 8, where `slots` is that buffer's length. 11 and 5 do not arise: a plain start judges no record's
+-- memory and looks at no owner
+abbrev pub startTests : ℕ → RecordNumber → ℕ → ℕ → List ℕ → Asked → Record → Tests
+startTests records who capacity slots custody asked t = record {
   «capacity_above_limit» = ltb plainCapacityLimit capacity;
   «capacity_zero» = eqb capacity 0;
-  «buffer_too_short» = tooShort capacity records slots (length custody);
+  «buffer_too_short» = tooShort records capacity slots (length custody);
   «record_not_ready» = notIdle t records who;
   «record_damaged» = false;
   «not_known» = isNotKnown asked;
@@ -100,11 +101,11 @@ startTests capacity records who slots custody asked t = record {
   «index_not_held» = isNotHeld who asked custody;
 }
 
-unfoldable pub startVerdict : ℕ → ℕ → RecordNumber → ℕ → List ℕ → Asked → Record → Verdict
-startVerdict capacity records who slots custody asked t = verdictOf (startTests capacity records who slots custody asked t)
+unfoldable pub startVerdict : ℕ → RecordNumber → ℕ → ℕ → List ℕ → Asked → Record → Verdict
+startVerdict records who capacity slots custody asked t = verdictOf (startTests records who capacity slots custody asked t)
 
 abbrev pub startJudged : ℕ → RecordNumber → Asked → Shared → Record → Verdict
-startJudged records who asked s t = startVerdict (s .set .capacity) records who (length (s .slots)) (s .custody) asked t
+startJudged records who asked s t = startVerdict records who (s .set .capacity) (length (s .slots)) (s .custody) asked t
 
 -- a release's start marks its index as being given back, by its holder; no other start marks anything
 abbrev pub startMark : RecordNumber → Asked → Mark

@@ -78,7 +78,7 @@ advanced who p list s = record {
 
 -- refusal 10 of a start, a step or a drain
 unfoldable pub tooShort : ℕ → ℕ → ℕ → ℕ → Bool
-tooShort capacity records slots custody = cond (ltb recordsLimit records) true (cond (leb slots capacity) true (ltb custody capacity))
+tooShort records capacity slots custody = cond (ltb recordsLimit records) true (cond (leb slots capacity) true (ltb custody capacity))
 
 -- refusal 11
 abbrev pub isDamaged : Opened → Bool
@@ -86,11 +86,11 @@ isDamaged (At p) = false
 isDamaged Damaged = true
 
 -- refusals 3, 4, 10, 9 and 11, where `slots` and `custody` are the buffers' lengths
-abbrev pub stepTests : ℕ → ℕ → RecordNumber → ℕ → ℕ → Opened → Record → Tests
-stepTests capacity records who slots custody opened t = record {
+abbrev pub stepTests : ℕ → RecordNumber → ℕ → ℕ → ℕ → Opened → Record → Tests
+stepTests records who capacity slots custody opened t = record {
   «capacity_above_limit» = ltb plainCapacityLimit capacity;
   «capacity_zero» = eqb capacity 0;
-  «buffer_too_short» = tooShort capacity records slots custody;
+  «buffer_too_short» = tooShort records capacity slots custody;
   «record_not_ready» = notCalling t records who;
   «record_damaged» = isDamaged opened;
   «not_known» = false;
@@ -99,15 +99,15 @@ stepTests capacity records who slots custody opened t = record {
   «index_not_held» = false;
 }
 
-unfoldable pub stepVerdict : ℕ → ℕ → RecordNumber → ℕ → ℕ → Opened → Record → Verdict
-stepVerdict capacity records who slots custody opened t = verdictOf (stepTests capacity records who slots custody opened t)
+unfoldable pub stepVerdict : ℕ → RecordNumber → ℕ → ℕ → ℕ → Opened → Record → Verdict
+stepVerdict records who capacity slots custody opened t = verdictOf (stepTests records who capacity slots custody opened t)
 
 -- the record's call, opened at its place
 abbrev pub openedIn : Shared → Record → Opened
 openedIn s t = openedAt (s .set .capacity) (t .call)
 
 abbrev pub stepJudged : ℕ → RecordNumber → Shared → Record → Verdict
-stepJudged records who s t = stepVerdict (s .set .capacity) records who (length (s .slots)) (length (s .custody)) (openedIn s t) t
+stepJudged records who s t = stepVerdict records who (s .set .capacity) (length (s .slots)) (length (s .custody)) (openedIn s t) t
 
 -- a record that is accepted opens, so the second case is of none
 abbrev pub steppedFrom : Opened → RecordNumber → Shared → Record → Effect Shared

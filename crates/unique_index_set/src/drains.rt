@@ -74,13 +74,13 @@ pub fn drain(
     let call = thread.call;
     let opened = open(capacity, call);
     let verdict = step_verdict(
-        capacity,
-        thread,
         records,
         who,
-        opened,
+        capacity,
         slots.len(),
         custody.len(),
+        opened,
+        thread,
     );
     match verdict {
         Verdict::Refused(why) => {

@@ -5,6 +5,7 @@ use calls::Verdict;
 use crate::UniqueIndexSet;
 use crate::steps::Stepped;
 use crate::steps::turned_away;
+use custody::Custody;
 use thread_records::Record;
 use thread_records::empty_list;
 use thread_records::idle_record;
@@ -34,10 +35,11 @@ fn free_custody(custody: &mut [u32], n: u32)
     requires { ⌜ n ≤ length (now custody) ⌝ }
     ensures { λ r. ⌜ now (custody .exit) ≡ filled freeEntry n (now (custody .entry)) ⌝ }
 {
+    let free = Custody::Free.entry();
     let mut i: u32 = 0;
     while i < n {
         let at = i as usize;
-        custody[at] = 0;
+        custody[at] = free;
         i += 1;
     }
 }
@@ -53,8 +55,8 @@ fn is_too_large(capacity: u32, slots: usize) -> bool
 }
 
 // Above 16 records, or the custody buffer too short.
-fn is_setup_short(capacity: u32, records: usize, custody: usize) -> bool
-    ensures { λ r. ⌜ r ≡ setupShort capacity records custody ⌝ }
+fn is_setup_short(records: usize, capacity: u32, custody: usize) -> bool
+    ensures { λ r. ⌜ r ≡ setupShort records capacity custody ⌝ }
 {
     if records > RECORDS_LIMIT {
         return true;
@@ -63,13 +65,13 @@ fn is_setup_short(capacity: u32, records: usize, custody: usize) -> bool
 }
 
 // What a setup is refused with: 3, 4 and 10.
-fn setup_verdict(capacity: u32, records: usize, slots: usize, custody: usize) -> Verdict
-    ensures { λ r. ⌜ r ≡ setupVerdict capacity records slots custody ⌝ }
+fn setup_verdict(records: usize, capacity: u32, slots: usize, custody: usize) -> Verdict
+    ensures { λ r. ⌜ r ≡ setupVerdict records capacity slots custody ⌝ }
 {
     Tests {
         capacity_above_limit: is_too_large(capacity, slots),
         capacity_zero: capacity == 0,
-        buffer_too_short: is_setup_short(capacity, records, custody),
+        buffer_too_short: is_setup_short(records, capacity, custody),
         record_not_ready: false,
         record_damaged: false,
         not_known: false,
@@ -90,7 +92,7 @@ pub fn setup(
 ) -> Stepped
     ensures { λ r. ⌜ leaves r (now (slots .exit)) (now (custody .exit)) ≡ setupOf records capacity (shared set (now (slots .entry)) (now (custody .entry))) thread ⌝ }
 {
-    let verdict = setup_verdict(capacity, records, slots.len(), custody.len());
+    let verdict = setup_verdict(records, capacity, slots.len(), custody.len());
     match verdict {
         Verdict::Refused(why) => turned_away(set, thread, why),
         Verdict::Accepted => {

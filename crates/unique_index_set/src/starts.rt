@@ -114,20 +114,20 @@ fn is_not_held(who: RecordNumber, asked: Asked, custody: &[u32]) -> bool
 
 // What a start is refused with: 3, 4, 10, 9, 13, 7 and 8.
 fn start_verdict(
-    capacity: u32,
-    thread: Record,
     records: usize,
     who: RecordNumber,
-    asked: Asked,
+    capacity: u32,
     slots: usize,
     custody: &[u32],
+    asked: Asked,
+    thread: Record,
 ) -> Verdict
-    ensures { λ r. ⌜ r ≡ startVerdict capacity records who slots (now (custody .entry)) asked thread ⌝ }
+    ensures { λ r. ⌜ r ≡ startVerdict records who capacity slots (now (custody .entry)) asked thread ⌝ }
 {
     Tests {
         capacity_above_limit: capacity > PLAIN_CAPACITY_LIMIT,
         capacity_zero: capacity == 0,
-        buffer_too_short: is_too_short(capacity, records, slots, custody.len()),
+        buffer_too_short: is_too_short(records, capacity, slots, custody.len()),
         record_not_ready: is_not_idle(thread, records, who),
         record_damaged: false,
         not_known: is_not_known(asked),
@@ -176,13 +176,13 @@ pub fn start(
     let list = thread.list;
     let asked = asked_of(request);
     let verdict = start_verdict(
-        set.capacity,
-        thread,
         records,
         who,
-        asked,
+        set.capacity,
         slots.len(),
         custody,
+        asked,
+        thread,
     );
     match verdict {
         Verdict::Refused(why) => turned_away(set, thread, why),

@@ -84,8 +84,8 @@ fn advance(
 }
 
 // Above 16 records, or a lent buffer too short.
-pub(crate) fn is_too_short(capacity: u32, records: usize, slots: usize, custody: usize) -> bool
-    ensures { λ r. ⌜ r ≡ tooShort capacity records slots custody ⌝ }
+pub(crate) fn is_too_short(records: usize, capacity: u32, slots: usize, custody: usize) -> bool
+    ensures { λ r. ⌜ r ≡ tooShort records capacity slots custody ⌝ }
 {
     let n = capacity as usize;
     if records > RECORDS_LIMIT {
@@ -108,20 +108,20 @@ fn is_damaged(opened: Opened) -> bool
 
 // What a step is refused with, the record's call opened: 3, 4, 10, 9 and 11.
 pub(crate) fn step_verdict(
-    capacity: u32,
-    thread: Record,
     records: usize,
     who: RecordNumber,
-    opened: Opened,
+    capacity: u32,
     slots: usize,
     custody: usize,
+    opened: Opened,
+    thread: Record,
 ) -> Verdict
-    ensures { λ r. ⌜ r ≡ stepVerdict capacity records who slots custody opened thread ⌝ }
+    ensures { λ r. ⌜ r ≡ stepVerdict records who capacity slots custody opened thread ⌝ }
 {
     Tests {
         capacity_above_limit: capacity > PLAIN_CAPACITY_LIMIT,
         capacity_zero: capacity == 0,
-        buffer_too_short: is_too_short(capacity, records, slots, custody),
+        buffer_too_short: is_too_short(records, capacity, slots, custody),
         record_not_ready: is_not_calling(thread, records, who),
         record_damaged: is_damaged(opened),
         not_known: false,
@@ -157,13 +157,13 @@ pub fn step(
     let list = thread.list;
     let opened = open(capacity, call);
     let verdict = step_verdict(
-        capacity,
-        thread,
         records,
         who,
-        opened,
+        capacity,
         slots.len(),
         custody.len(),
+        opened,
+        thread,
     );
     match verdict {
         Verdict::Refused(why) => turned_away(set, thread, why),

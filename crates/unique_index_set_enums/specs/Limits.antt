@@ -15,6 +15,10 @@ recordsLimit = 16
 abbrev pub ownersLimit : ℕ
 ownersLimit = 8
 
--- the borrowed count that marks a locked plain set
+-- the trace program's own limit on the capacity of either set
+abbrev pub traceCapacityLimit : ℕ
+traceCapacityLimit = 1_024
+
+-- the borrowed count that marks a locked plain set (unique_index_set.rs 232)
 abbrev pub lockAcquire : ℕ
 lockAcquire = 0x00ff_ffff

@@ -1,4 +1,4 @@
--- The scope's number or value for each case of an enum of the Rust.
+-- The scope's number or value for each case of the Rust's enums, and a lent number read as a mode.
 use Prim.Native.Nat.{ℕ}
 use mathlib.Core.Bool.{cond}
 use lib.Dec.{eqb}

@@ -21,6 +21,9 @@ pub const ROBUST_CAPACITY_LIMIT: u32 = 4_096;
 pub const RECORDS_LIMIT: usize = 16;
 pub const OWNERS_LIMIT: u8 = 8;
 
+// The trace program's own limit on the capacity of either set.
+pub const TRACE_CAPACITY_LIMIT: u32 = 1_024;
+
 // The borrowed count that marks a locked plain set.
 pub const LOCK_ACQUIRE: u32 = 0x00ff_ffff;
 

@@ -10,48 +10,53 @@ use Rattle.unique_index_set.proofs.setups.free_custody.Statement.{state
 use Rattle.unique_index_set.proofs.setups.free_custody.Tie as tie
 use Rattle.unique_index_set.proofs.setups.free_custody.Reads as reads
 use Rattle.unique_index_set.proofs.setups.free_custody.Lts as lts
+use Rattle.custody.proofs.Custody.entry.Reads as entry-reads
 
 abbrev Inv-loop : tie.InvT-loop
-Inv-loop custody₀ n i₀ custody i = (i ≤ n) × (custody ≡ filled freeEntry i custody₀) × (length custody ≡ length custody₀)
+Inv-loop custody₀ n free i₀ custody i = (i ≤ n) × (custody ≡ filled freeEntry i custody₀) × (length custody ≡ length custody₀)
 
 abbrev μ-loop : tie.MeasureT-loop
-μ-loop custody₀ n i₀ custody i = n - i
+μ-loop custody₀ n free i₀ custody i = n - i
 
--- src/setups.rt:38:5
+-- src/setups.rt:38:9
+entry-requires : tie.Need-entry-requires Inv-loop μ-loop
+entry-requires c κs = search needs
+
+-- src/setups.rt:40:5
 loop-holds : tie.Need-loop-holds Inv-loop μ-loop
 loop-holds c = (omega arith, filled-none _ _, refl)
 
--- src/setups.rt:39:18
+-- src/setups.rt:41:18
 cast-at : tie.Need-cast-at Inv-loop μ-loop
 cast-at c = search needs
 
--- src/setups.rt:40:9
+-- src/setups.rt:42:9
 mul-custody : tie.Need-mul-custody Inv-loop μ-loop
 mul-custody c = search needs
 
--- src/setups.rt:40:9
+-- src/setups.rt:42:9
 slice-write-custody : tie.Need-slice-write-custody Inv-loop μ-loop
 slice-write-custody c = omega arith
 
--- src/setups.rt:41:9
+-- src/setups.rt:43:9
 add-i : tie.Need-add-i Inv-loop μ-loop
 add-i c = search needs
 
--- src/setups.rt:38:5
+-- src/setups.rt:40:5
 loop-less : tie.Need-loop-less Inv-loop μ-loop
 loop-less c = omega arith
 
--- src/setups.rt:38:5
+-- src/setups.rt:40:5
 loop-again : tie.Need-loop-again Inv-loop μ-loop
-loop-again c = let v = c .before .loop .inv in (omega arith, filled-more freeEntry _ _ _ (v .1), simp length-set (v .2))
+loop-again c = let v = c .before .loop .inv in (omega arith, rw (c .before .before .entry .ensures) (filled-more freeEntry _ _ _ (v .1)), simp length-set (v .2))
 
--- src/setups.rt:33:1
+-- src/setups.rt:34:1
 same-length : tie.Need-same-length Inv-loop μ-loop
 same-length c = c .before .loop .inv .2
 
--- src/setups.rt:33:1
+-- src/setups.rt:34:1
 returns : tie.Need-returns Inv-loop μ-loop
-returns c = let v = c .before .loop .inv in let e : c .before .loop .i ≡ c .before .before .args .n = omega arith in rw (← e) (v .1)
+returns c = let v = c .before .loop .inv in let e : c .before .loop .i ≡ c .before .before .before .before .args .n = omega arith in rw (← e) (v .1)
 
 pub free-custody-spec : {M : Type 1} → statement M
 free-custody-spec =
@@ -59,6 +64,7 @@ free-custody-spec =
     (tie.spec
     Inv-loop
     μ-loop
+    entry-requires
     loop-holds
     cast-at
     mul-custody
