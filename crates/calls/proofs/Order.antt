@@ -81,3 +81,12 @@ by-name t (more a (more b (more d (more e (more f (more g (more h (more i (more 
 pub accepted : (t : Tests) → verdictOf t ≡ Accepted → AllPassed t
 unfolding verdictOf
 accepted t e = by-name t (all-passed t refusalOrder e)
+
+-- and what fails no test is accepted
+pub all-accepted : (t : Tests) → AllPassed t → verdictOf t ≡ Accepted
+unfolding verdictOf
+all-accepted t a = simp (a .above, a .zero, a .short, a .ready, a .damaged, a .known, a .owner, a .range, a .held)
+
+-- what is refused failed its own test
+pub refused-failed : (t : Tests) (r : Refusal) → verdictOf t ≡ Refused r → failed t r ≡ true
+refused-failed t r e = refused-first t r e .fails

@@ -1,7 +1,11 @@
 -- Of both sets: what is refused changes nothing, and two results of one contract are the same. Assumes nothing.
+use Prim.Native.Nat.{ℕ}
 use mathlib.Core.Path.{_≡_, refl, sym, ap, _∙_}
+use mathlib.Core.Bool.{Bool, true, false}
+use native.Mathlib.Omega.{arith}
 use Rattle.calls.specs.declared.Refusal.{Refusal}
-use Rattle.calls.specs.declared.Progress.the-variants.{Refused}
+use Rattle.calls.specs.declared.Progress.{Progress}
+use Rattle.calls.specs.declared.Progress.the-variants.{Accepted, Answered, Refused}
 use Rattle.calls.specs.declared.Report.{Report}
 use Rattle.calls.specs.declared.Verdict.{Verdict}
 use Rattle.calls.specs.declared.Verdict.the-variants as verdict
@@ -18,6 +22,18 @@ Harmless s t e = (why : Refusal) → e .report .progress ≡ Refused why → Unc
 
 pub unchanged-harmless : {S : Type 0} (s : S) (t : Record) (why : Refusal) → Harmless s t (unchanged s t why)
 unchanged-harmless s t why why' e = record { shared = refl; thread = refl }
+
+-- what is accepted or answered is no refusal
+abbrev pub taken : Progress → Bool
+taken Accepted = true
+taken (Answered a) = true
+taken (Refused why) = false
+
+pub taken-harmless : {S : Type 0} (s : S) (t : Record) (e : Effect S) → taken (e .report .progress) ≡ true → Harmless s t e
+taken-harmless s t e p why q =
+    let z : taken (Refused why) ≡ true = rw q at p in
+    let y : _≡_ {A = ℕ} 0 1 = cc in
+    absurd (omega arith)
 
 pub judged-harmless : {S : Type 0} (v : Verdict) (s : S) (t : Record) (e : Effect S) → Harmless s t e → Harmless s t (judged v s t e)
 judged-harmless (verdict.Refused why) s t e h = unchanged-harmless s t why

@@ -8,7 +8,9 @@ use lib.Dec.{ltb, leb, eqb}
 use native.Mathlib.Omega.{arith}
 use native.Mathlib.Nat.{lt-of-lt-of-le}
 use borrow.Author.Tests.{ltb-false, leb-false, lt-ltb}
+use Rattle.unique_index_set_enums.specs.declared.Index.{Index}
 use Rattle.unique_index_set_enums.specs.declared.RecordNumber.{RecordNumber}
+use Rattle.unique_index_set_enums.specs.declared.ReleaseMode.{ReleaseMode}
 use Rattle.unique_index_set_enums.specs.Limits.{plainCapacityLimit, recordsLimit}
 use Rattle.unique_index_set_enums.proofs.Choice.{both-false}
 use Rattle.calls.specs.declared.Verdict.the-variants.{Accepted}
@@ -23,8 +25,8 @@ use Rattle.plain_places.proofs.Laws.{opened-sound}
 use Rattle.unique_index_set.specs.declared.starts.Asked.{Asked}
 use Rattle.unique_index_set.specs.declared.starts.Asked.the-variants.{Acquire, Release, BorrowedIndices, IsLocked, NotKnown}
 use Rattle.unique_index_set.specs.Custodies.{markWithin}
-use Rattle.unique_index_set.specs.Steps.{tooShort, stepTests, stepVerdict}
-use Rattle.unique_index_set.specs.Starts.{isOutOfRange, startTests, startVerdict, startMark}
+use Rattle.unique_index_set.specs.Steps.{Shared, tooShort, stepTests, stepVerdict}
+use Rattle.unique_index_set.specs.Starts.{isOutOfRange, startTests, startVerdict, startJudged, startMark}
 use Rattle.unique_index_set.specs.Setups.{tooLarge, setupShort, setupTests, setupVerdict}
 
 -- buffers that are long enough for a capacity within the limit
@@ -84,3 +86,11 @@ unfolding startVerdict
 start-mark-within records who capacity slots custody asked t e =
     let a = accepted (startTests records who capacity slots custody asked t) e in
     mark-in capacity (length custody) who asked (a .range) (start-roomy records who capacity slots custody asked t e .custody)
+
+-- what a release gives back is below the capacity
+pub release-in : (records : ℕ) (who : RecordNumber) (i : Index) (m : ReleaseMode) (s : Shared) (t : Record) → startJudged records who (Release i m) s t ≡ Accepted
+    → ltb (i .0) (s .set .capacity) ≡ true
+unfolding startVerdict
+release-in records who i m s t e =
+    let a = accepted (startTests records who (s .set .capacity) (length (s .slots)) (s .custody) (Release i m) t) e in
+    lt-ltb _ _ (leb-false (s .set .capacity) (i .0) (a .range))

@@ -1,2 +1,5 @@
 pub mod Sound
 pub mod Accepted
+pub mod Stays
+pub mod Refused
+pub mod Ends

@@ -56,7 +56,12 @@ fresh capacity s = record {
   custody = filled freeEntry capacity (s .custody);
 }
 
+abbrev pub setFresh : ℕ → Shared → Effect Shared
+setFresh capacity s = record { shared = fresh capacity s; thread = idleRecord emptyList; report = acceptedReport }
+
+abbrev pub setupJudged : ℕ → ℕ → Shared → Verdict
+setupJudged records capacity s = setupVerdict records capacity (length (s .slots)) (length (s .custody))
+
+-- the setup of a capacity, with `records` lent
 unfoldable pub setupOf : ℕ → ℕ → Shared → Record → Effect Shared
-setupOf records capacity s t =
-    judged (setupVerdict records capacity (length (s .slots)) (length (s .custody))) s t
-    (record { shared = fresh capacity s; thread = idleRecord emptyList; report = acceptedReport })
+setupOf records capacity s t = judged (setupJudged records capacity s) s t (setFresh capacity s)
