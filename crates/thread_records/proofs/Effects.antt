@@ -1,12 +1,11 @@
--- Of both sets: what is refused changes nothing, and two results of one contract are the same. Assumes nothing.
+-- Of both sets: what is refused changes nothing. Assumes nothing.
 use Prim.Native.Nat.{ℕ}
-use mathlib.Core.Path.{_≡_, refl, sym, ap, _∙_}
+use mathlib.Core.Path.{_≡_, refl}
 use mathlib.Core.Bool.{Bool, true, false}
 use native.Mathlib.Omega.{arith}
 use Rattle.calls.specs.declared.Refusal.{Refusal}
 use Rattle.calls.specs.declared.Progress.{Progress}
 use Rattle.calls.specs.declared.Progress.the-variants.{Accepted, Answered, Refused}
-use Rattle.calls.specs.declared.Report.{Report}
 use Rattle.calls.specs.declared.Verdict.{Verdict}
 use Rattle.calls.specs.declared.Verdict.the-variants as verdict
 use Rattle.thread_records.specs.declared.Record.{Record}
@@ -38,14 +37,3 @@ taken-harmless s t e p why q =
 pub judged-harmless : {S : Type 0} (v : Verdict) (s : S) (t : Record) (e : Effect S) → Harmless s t e → Harmless s t (judged v s t e)
 judged-harmless (verdict.Refused why) s t e h = unchanged-harmless s t why
 judged-harmless verdict.Accepted s t e h = h
-
--- two effects of one definition are one, thing by thing
-pub record Same {S : Type 0} (d e : Effect S) : Type 0 where
-  pub shared : d .shared ≡ e .shared
-  pub thread : d .thread ≡ e .thread
-  pub report : d .report ≡ e .report
-
-pub same : {S : Type 0} (d e f : Effect S) → d ≡ f → e ≡ f → Same d e
-same d e f p q =
-    let r = p ∙ sym q in
-    record { shared = ap (λ (x : Effect _). x .shared) r; thread = ap (λ (x : Effect _). x .thread) r; report = ap (λ (x : Effect _). x .report) r }

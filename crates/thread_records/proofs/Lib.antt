@@ -1,2 +1,4 @@
 pub mod Effects
 pub mod Filled
+pub mod Numbers
+pub mod Deaths

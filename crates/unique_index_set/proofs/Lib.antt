@@ -3,3 +3,6 @@ pub mod Accepted
 pub mod Stays
 pub mod Refused
 pub mod Ends
+pub mod Numbers
+pub mod Fresh
+pub mod Determined

@@ -44,7 +44,7 @@ use Rattle.unique_index_set.specs.Drains.{again, drainOf, runLeaves}
 use Rattle.unique_index_set.proofs.Accepted.{release-in}
 use Rattle.unique_index_set.proofs.Stays.{Ready, Lent, stepped, accepted-ready, start-lent, ready, stays}
 
-next-taken : (n : Next) → taken (reportAfter n .progress) ≡ true
+pub next-taken : (n : Next) → taken (reportAfter n .progress) ≡ true
 next-taken (Going p) = refl
 next-taken (Answered a) = refl
 

@@ -176,17 +176,20 @@ pub ready : (records : ℕ) (who : RecordNumber) (s : Shared) (p : Place) (list 
 unfolding stepVerdict
 ready records who s p list l e =
     let o = opened-closed (s .set .capacity) p e in
-    record { judged = all-accepted _ (record {
-      above = l .above;
-      zero = l .zero;
-      short = l .short;
-      ready = calling records who p list (l .here);
-      damaged = rw o refl;
-      known = refl;
-      owner = refl;
-      range = refl;
-      held = refl;
-    }); opened = o }
+    record {
+      judged = all-accepted _ (record {
+        above = l .above;
+        zero = l .zero;
+        short = l .short;
+        ready = calling records who p list (l .here);
+        damaged = rw o refl;
+        known = refl;
+        owner = refl;
+        range = refl;
+        held = refl;
+      });
+      opened = o;
+    }
 
 stays-lent : (records : ℕ) (who : RecordNumber) (s : Shared) (p : Place) → Lent records who s → Lent records who (sharedAfter who p s)
 unfolding sharedAfter

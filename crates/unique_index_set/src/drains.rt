@@ -1,11 +1,11 @@
 // One record run alone with a budget.
-use calls::Report;
-use calls::Verdict;
 use crate::UniqueIndexSet;
 use crate::steps::Stepped;
 use crate::steps::step;
 use crate::steps::step_verdict;
 use crate::steps::turned_away;
+use calls::Report;
+use calls::Verdict;
 use plain_places::open;
 use thread_records::Record;
 use unique_index_set_enums::RecordNumber;

@@ -1,10 +1,10 @@
 // A fresh set over the lent buffers.
-use calls::Report;
-use calls::Tests;
-use calls::Verdict;
 use crate::UniqueIndexSet;
 use crate::steps::Stepped;
 use crate::steps::turned_away;
+use calls::Report;
+use calls::Tests;
+use calls::Verdict;
 use custody::Custody;
 use thread_records::Record;
 use thread_records::empty_list;

@@ -1,4 +1,11 @@
 // The start of a call: it enters the call and touches no shared word.
+use crate::UniqueIndexSet;
+use crate::marks::Mark;
+use crate::marks::is_holding;
+use crate::marks::put_mark;
+use crate::steps::Stepped;
+use crate::steps::is_too_short;
+use crate::steps::turned_away;
 use calls::Call;
 use calls::CallRead;
 use calls::Refusal;
@@ -7,13 +14,6 @@ use calls::Request;
 use calls::Tests;
 use calls::Verdict;
 use calls::read_call;
-use crate::UniqueIndexSet;
-use crate::marks::Mark;
-use crate::marks::is_holding;
-use crate::marks::put_mark;
-use crate::steps::Stepped;
-use crate::steps::is_too_short;
-use crate::steps::turned_away;
 use custody::Custody;
 use plain_places::Place;
 use plain_places::close;

@@ -1,8 +1,4 @@
 // A step: check, access, perform, mark, resume.
-use calls::Refusal;
-use calls::Report;
-use calls::Tests;
-use calls::Verdict;
 use crate::UniqueIndexSet;
 use crate::marks::mark_at;
 use crate::marks::put_mark;
@@ -10,6 +6,10 @@ use crate::moves::Next;
 use crate::moves::access_at;
 use crate::moves::perform;
 use crate::moves::resume;
+use calls::Refusal;
+use calls::Report;
+use calls::Tests;
+use calls::Verdict;
 use plain_places::Opened;
 use plain_places::Place;
 use plain_places::close;

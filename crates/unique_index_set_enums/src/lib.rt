@@ -15,10 +15,12 @@ pub struct RecordNumber(pub u8);
 
 // The largest capacity of each set.
 pub const PLAIN_CAPACITY_LIMIT: u32 = 16_777_214;
+
 pub const ROBUST_CAPACITY_LIMIT: u32 = 4_096;
 
 // How many thread records may be lent, and how many owners a list may have.
 pub const RECORDS_LIMIT: usize = 16;
+
 pub const OWNERS_LIMIT: u8 = 8;
 
 // The trace program's own limit on the capacity of either set.

@@ -1,128 +1,94 @@
 use borrow.Author.Needs.{needs}
 use Rattle.plain_places.proofs.close.Statement.{statement}
 use Rattle.plain_places.proofs.close.Tie as tie
-use Rattle.plain_places.proofs.close.Reads as reads
-use Rattle.plain_places.proofs.close.Lts as lts
-use Rattle.plain_places.proofs.remember.Reads as remember-reads
-use Rattle.unique_index_set_enums.proofs.ReleaseMode.number.Reads as number-reads
 
--- src/lib.rt:177:46
 enum-told : tie.Need-enum-told
 enum-told c = search needs
 
--- src/lib.rt:177:31
 remember-requires : tie.Need-remember-requires
 remember-requires c κs = search needs
 
--- src/lib.rt:178:28
 enum-known-place : tie.Need-enum-known-place
 enum-known-place c = search needs
 
--- src/lib.rt:178:37
 remember-requires-2 : tie.Need-remember-requires-2
 remember-requires-2 c κs = search needs
 
--- src/lib.rt:179:32
 enum-known-place-2 : tie.Need-enum-known-place-2
 enum-known-place-2 c = search needs
 
--- src/lib.rt:179:48
 remember-requires-3 : tie.Need-remember-requires-3
 remember-requires-3 c κs = search needs
 
--- src/lib.rt:180:29
 enum-known-place-3 : tie.Need-enum-known-place-3
 enum-known-place-3 c = search needs
 
--- src/lib.rt:180:39
 remember-requires-4 : tie.Need-remember-requires-4
 remember-requires-4 c κs = search needs
 
--- src/lib.rt:181:28
 enum-known-place-4 : tie.Need-enum-known-place-4
 enum-known-place-4 c = search needs
 
--- src/lib.rt:181:56
 number-requires : tie.Need-number-requires
 number-requires c κs = search needs
 
--- src/lib.rt:181:44
 remember-requires-5 : tie.Need-remember-requires-5
 remember-requires-5 c κs = search needs
 
--- src/lib.rt:182:29
 enum-known-place-5 : tie.Need-enum-known-place-5
 enum-known-place-5 c = search needs
 
--- src/lib.rt:182:63
 number-requires-2 : tie.Need-number-requires-2
 number-requires-2 c κs = search needs
 
--- src/lib.rt:182:51
 remember-requires-6 : tie.Need-remember-requires-6
 remember-requires-6 c κs = search needs
 
--- src/lib.rt:183:32
 enum-known-place-6 : tie.Need-enum-known-place-6
 enum-known-place-6 c = search needs
 
--- src/lib.rt:183:66
 number-requires-3 : tie.Need-number-requires-3
 number-requires-3 c κs = search needs
 
--- src/lib.rt:183:54
 remember-requires-7 : tie.Need-remember-requires-7
 remember-requires-7 c κs = search needs
 
--- src/lib.rt:184:47
 enum-told-2 : tie.Need-enum-told-2
 enum-told-2 c = search needs
 
--- src/lib.rt:184:32
 remember-requires-8 : tie.Need-remember-requires-8
 remember-requires-8 c κs = search needs
 
--- src/lib.rt:185:45
 enum-told-3 : tie.Need-enum-told-3
 enum-told-3 c = search needs
 
--- src/lib.rt:185:30
 remember-requires-9 : tie.Need-remember-requires-9
 remember-requires-9 c κs = search needs
 
--- src/lib.rt:173:1
 returns : tie.Need-returns
 returns c = simp (c .remember .ensures, c .before .enum-told .given .1)
 
--- src/lib.rt:173:1
 returns-2 : tie.Need-returns-2
 returns-2 c = simp (c .remember2 .ensures, c .before .before .place .given .1)
 
--- src/lib.rt:173:1
 returns-3 : tie.Need-returns-3
 returns-3 c = simp (c .remember3 .ensures, c .before .before .place2 .given .1)
 
--- src/lib.rt:173:1
 returns-4 : tie.Need-returns-4
 returns-4 c = simp (c .remember4 .ensures, c .before .before .place3 .given .1)
 
--- src/lib.rt:173:1
 returns-5 : tie.Need-returns-5
 returns-5 c = simp (c .remember5 .ensures, c .before .number .ensures, c .before .before .before .place4 .given .1)
 
--- src/lib.rt:173:1
 returns-6 : tie.Need-returns-6
 returns-6 c = simp (c .remember6 .ensures, c .before .number2 .ensures, c .before .before .before .place5 .given .1)
 
--- src/lib.rt:173:1
 returns-7 : tie.Need-returns-7
 returns-7 c = simp (c .remember7 .ensures, c .before .number3 .ensures, c .before .before .before .place6 .given .1)
 
--- src/lib.rt:173:1
 returns-8 : tie.Need-returns-8
 returns-8 c = simp (c .remember8 .ensures, c .before .enum-told2 .given .1)
 
--- src/lib.rt:173:1
 returns-9 : tie.Need-returns-9
 returns-9 c = simp (c .remember9 .ensures, c .before .enum-told3 .given .1)
 

@@ -1,25 +1,16 @@
-use borrow.Author.Tests.{le-ltb}
-use borrow.Author.Tests.{le-leb}
-use borrow.Author.Tests.{lt-leb}
-use borrow.Author.Tests.{lt-ltb}
-use Rattle.plain_places.specs.Places.{mayAcquire}
+use borrow.Author.Tests.{le-ltb, lt-ltb}
 use borrow.Author.Needs.{needs}
+use Rattle.plain_places.specs.Places.{mayAcquire}
 use Rattle.plain_places.proofs.may_acquire.Statement.{statement}
 use Rattle.plain_places.proofs.may_acquire.Tie as tie
-use Rattle.plain_places.proofs.may_acquire.Reads as reads
-use Rattle.plain_places.proofs.may_acquire.Lts as lts
-use Rattle.head_details.proofs.HeadDetails.from.Reads as from-reads
 
--- src/lib.rt:42:9
 from-requires : tie.Need-from-requires
 from-requires c κs = search needs
 
--- src/lib.rt:44:9
 returns : tie.Need-returns
 unfolding mayAcquire
 returns c = simp (← c .before .before .before .from .ensures .head, ← c .before .before .before .from .ensures .borrowed, lt-ltb _ _ (c .before .if1 .taken))
 
--- src/lib.rt:39:1
 returns-2 : tie.Need-returns-2
 unfolding mayAcquire
 returns-2 c = simp (← c .before .before .from .ensures .head, ← c .before .before .from .ensures .borrowed, le-ltb _ _ (c .if1 .left))

@@ -1,48 +1,36 @@
-use borrow.Author.Tests.{ne-eqb}
-use borrow.Author.Tests.{eq-eqb}
-use Rattle.plain_places.specs.Places.{placeRead}
+use borrow.Author.Tests.{ne-eqb, eq-eqb}
 use borrow.Author.Needs.{needs}
+use Rattle.plain_places.specs.Places.{placeRead}
 use Rattle.plain_places.proofs.read_place.Statement.{statement}
 use Rattle.plain_places.proofs.read_place.Tie as tie
-use Rattle.plain_places.proofs.read_place.Reads as reads
-use Rattle.plain_places.proofs.read_place.Lts as lts
-use Rattle.plain_places.proofs.read_release.Reads as read-release-reads
 
--- src/lib.rt:116:9
 returns : tie.Need-returns
 unfolding placeRead
 returns c = simp (eq-eqb _ _ (c .if1 .taken))
 
--- src/lib.rt:119:9
 returns-2 : tie.Need-returns-2
 unfolding placeRead
 returns-2 c = simp (eq-eqb _ _ (c .if2 .taken), ne-eqb _ _ (c .before .before .if1 .left))
 
--- src/lib.rt:122:9
 returns-3 : tie.Need-returns-3
 unfolding placeRead
 returns-3 c = simp (eq-eqb _ _ (c .if3 .taken), ne-eqb _ _ (c .before .before .if2 .left), ne-eqb _ _ (c .before .before .before .before .if1 .left))
 
--- src/lib.rt:125:9
 returns-4 : tie.Need-returns-4
 unfolding placeRead
 returns-4 c = simp (eq-eqb _ _ (c .if4 .taken), ne-eqb _ _ (c .before .before .if3 .left), ne-eqb _ _ (c .before .before .before .before .if2 .left), ne-eqb _ _ (c .before .before .before .before .before .before .if1 .left))
 
--- src/lib.rt:128:9
 returns-5 : tie.Need-returns-5
 unfolding placeRead
 returns-5 c = simp (eq-eqb _ _ (c .if5 .taken), ne-eqb _ _ (c .before .before .if4 .left), ne-eqb _ _ (c .before .before .before .before .if3 .left), ne-eqb _ _ (c .before .before .before .before .before .before .if2 .left), ne-eqb _ _ (c .before .before .before .before .before .before .before .before .if1 .left))
 
--- src/lib.rt:131:9
 returns-6 : tie.Need-returns-6
 unfolding placeRead
 returns-6 c = simp (eq-eqb _ _ (c .if6 .taken), ne-eqb _ _ (c .before .before .if5 .left), ne-eqb _ _ (c .before .before .before .before .if4 .left), ne-eqb _ _ (c .before .before .before .before .before .before .if3 .left), ne-eqb _ _ (c .before .before .before .before .before .before .before .before .if2 .left), ne-eqb _ _ (c .before .before .before .before .before .before .before .before .before .before .if1 .left))
 
--- src/lib.rt:133:5
 read-release-requires : tie.Need-read-release-requires
 read-release-requires c κs = search needs
 
--- src/lib.rt:111:1
 returns-7 : tie.Need-returns-7
 unfolding placeRead
 returns-7 c = simp (c .read-release .ensures, ne-eqb _ _ (c .before .if6 .left), ne-eqb _ _ (c .before .before .before .if5 .left), ne-eqb _ _ (c .before .before .before .before .before .if4 .left), ne-eqb _ _ (c .before .before .before .before .before .before .before .if3 .left), ne-eqb _ _ (c .before .before .before .before .before .before .before .before .before .if2 .left), ne-eqb _ _ (c .before .before .before .before .before .before .before .before .before .before .before .if1 .left))

@@ -1,24 +1,16 @@
-use borrow.Author.Tests.{lt-leb}
-use borrow.Author.Tests.{lt-ltb}
-use borrow.Author.Tests.{le-ltb}
-use borrow.Author.Tests.{le-leb}
-use Rattle.thread_records.specs.Records.{notAlive}
+use borrow.Author.Tests.{lt-leb, le-leb}
 use borrow.Author.Needs.{needs}
+use Rattle.thread_records.specs.Records.{notAlive}
 use Rattle.thread_records.proofs.is_not_alive.Statement.{statement}
 use Rattle.thread_records.proofs.is_not_alive.Tie as tie
-use Rattle.thread_records.proofs.is_not_alive.Reads as reads
-use Rattle.thread_records.proofs.is_not_alive.Lts as lts
 
--- src/lib.rt:88:20
 cast-if1 : tie.Need-cast-if1
 cast-if1 c = search needs
 
--- src/lib.rt:89:9
 returns : tie.Need-returns
 unfolding notAlive
 returns c = simp (le-leb _ _ (c .if1 .taken))
 
--- src/lib.rt:85:1
 returns-2 : tie.Need-returns-2
 unfolding notAlive
 returns-2 c = simp (lt-leb _ _ (c .if1 .left))

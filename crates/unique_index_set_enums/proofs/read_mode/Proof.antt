@@ -1,22 +1,16 @@
-use borrow.Author.Tests.{ne-eqb}
-use borrow.Author.Tests.{eq-eqb}
+use borrow.Author.Tests.{ne-eqb, eq-eqb}
 use Rattle.unique_index_set_enums.specs.Numbers.{modeRead}
 use Rattle.unique_index_set_enums.proofs.read_mode.Statement.{statement}
 use Rattle.unique_index_set_enums.proofs.read_mode.Tie as tie
-use Rattle.unique_index_set_enums.proofs.read_mode.Reads as reads
-use Rattle.unique_index_set_enums.proofs.read_mode.Lts as lts
 
--- src/lib.rt:58:9
 returns : tie.Need-returns
 unfolding modeRead
 returns c = simp (eq-eqb _ _ (c .if1 .taken))
 
--- src/lib.rt:61:9
 returns-2 : tie.Need-returns-2
 unfolding modeRead
 returns-2 c = simp (eq-eqb _ _ (c .if2 .taken), ne-eqb _ _ (c .before .if1 .left))
 
--- src/lib.rt:54:1
 returns-3 : tie.Need-returns-3
 unfolding modeRead
 returns-3 c = simp (ne-eqb _ _ (c .if2 .left), ne-eqb _ _ (c .before .if1 .left))

@@ -1,55 +1,43 @@
 use Rattle.calls.specs.Order.{verdictOf}
 use Rattle.calls.proofs.Tests.verdict.Statement.{statement}
 use Rattle.calls.proofs.Tests.verdict.Tie as tie
-use Rattle.calls.proofs.Tests.verdict.Reads as reads
-use Rattle.calls.proofs.Tests.verdict.Lts as lts
 
--- src/lib.rt:182:13
 returns : tie.Need-returns
 unfolding verdictOf
 returns c = simp (c .if1 .taken)
 
--- src/lib.rt:187:13
 returns-2 : tie.Need-returns-2
 unfolding verdictOf
 returns-2 c = simp (c .if2 .taken, c .before .if1 .left)
 
--- src/lib.rt:192:13
 returns-3 : tie.Need-returns-3
 unfolding verdictOf
 returns-3 c = simp (c .if3 .taken, c .before .if2 .left, c .before .before .if1 .left)
 
--- src/lib.rt:195:13
 returns-4 : tie.Need-returns-4
 unfolding verdictOf
 returns-4 c = simp (c .if4 .taken, c .before .if3 .left, c .before .before .if2 .left, c .before .before .before .if1 .left)
 
--- src/lib.rt:198:13
 returns-5 : tie.Need-returns-5
 unfolding verdictOf
 returns-5 c = simp (c .if5 .taken, c .before .if4 .left, c .before .before .if3 .left, c .before .before .before .if2 .left, c .before .before .before .before .if1 .left)
 
--- src/lib.rt:201:13
 returns-6 : tie.Need-returns-6
 unfolding verdictOf
 returns-6 c = simp (c .if6 .taken, c .before .if5 .left, c .before .before .if4 .left, c .before .before .before .if3 .left, c .before .before .before .before .if2 .left, c .before .before .before .before .before .if1 .left)
 
--- src/lib.rt:204:13
 returns-7 : tie.Need-returns-7
 unfolding verdictOf
 returns-7 c = simp (c .if7 .taken, c .before .if6 .left, c .before .before .if5 .left, c .before .before .before .if4 .left, c .before .before .before .before .if3 .left, c .before .before .before .before .before .if2 .left, c .before .before .before .before .before .before .if1 .left)
 
--- src/lib.rt:207:13
 returns-8 : tie.Need-returns-8
 unfolding verdictOf
 returns-8 c = simp (c .if8 .taken, c .before .if7 .left, c .before .before .if6 .left, c .before .before .before .if5 .left, c .before .before .before .before .if4 .left, c .before .before .before .before .before .if3 .left, c .before .before .before .before .before .before .if2 .left, c .before .before .before .before .before .before .before .if1 .left)
 
--- src/lib.rt:210:13
 returns-9 : tie.Need-returns-9
 unfolding verdictOf
 returns-9 c = simp (c .if9 .taken, c .before .if8 .left, c .before .before .if7 .left, c .before .before .before .if6 .left, c .before .before .before .before .if5 .left, c .before .before .before .before .before .if4 .left, c .before .before .before .before .before .before .if3 .left, c .before .before .before .before .before .before .before .if2 .left, c .before .before .before .before .before .before .before .before .if1 .left)
 
--- src/lib.rt:178:5
 returns-10 : tie.Need-returns-10
 unfolding verdictOf
 returns-10 c = simp (c .if9 .left, c .before .if8 .left, c .before .before .if7 .left, c .before .before .before .if6 .left, c .before .before .before .before .if5 .left, c .before .before .before .before .before .if4 .left, c .before .before .before .before .before .before .if3 .left, c .before .before .before .before .before .before .before .if2 .left, c .before .before .before .before .before .before .before .before .if1 .left)

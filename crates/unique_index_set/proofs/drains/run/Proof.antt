@@ -1,23 +1,17 @@
-use Rattle.calls.proofs.Runs.{run-goes, run-stops, run-ends}
-use mathlib.Core.Path.{refl, sym, _∙_}
+use mathlib.Core.Path.{refl, sym, _∙_, _≡_}
 use borrow.Author.Needs.{needs}
 use borrow.Author.Tests.{not-true, not-false}
 use native.Mathlib.Nat.{sub-zero}
 use native.Mathlib.Omega.{arith}
+use lib.ListN.{length}
+use Prim.Native.Nat.{_-_, _≤_}
+use Rattle.calls.proofs.Runs.{run-goes, run-stops, run-ends}
 use Rattle.unique_index_set.specs.Drains.{again}
 use Rattle.unique_index_set.specs.Steps.{leaves}
 use Rattle.thread_records.specs.Drains.{going}
 use Rattle.calls.specs.Runs.{runFrom}
-use lib.ListN.{length}
-use mathlib.Core.Path.{_≡_}
-use Prim.Native.Nat.{_-_, _≤_}
 use Rattle.unique_index_set.proofs.drains.run.Statement.{statement}
 use Rattle.unique_index_set.proofs.drains.run.Tie as tie
-use Rattle.unique_index_set.proofs.drains.run.Reads as reads
-use Rattle.unique_index_set.proofs.drains.run.Lts as lts
-use Rattle.calls.proofs.Report.accepted.Reads as accepted-reads
-use Rattle.calls.proofs.Report.goes_on.Reads as goes-on-reads
-use Rattle.unique_index_set.proofs.steps.step.Reads as step-reads
 
 abbrev Inv-loop : tie.InvT-loop
 Inv-loop records who budget slots₀ custody₀ stepped₀ steps₀ slots custody stepped steps =
@@ -27,55 +21,42 @@ Inv-loop records who budget slots₀ custody₀ stepped₀ steps₀ slots custod
 abbrev μ-loop : tie.MeasureT-loop
 μ-loop records who budget slots₀ custody₀ stepped₀ steps₀ slots custody stepped steps = budget - steps
 
--- src/drains.rt:39:17
 accepted-requires : tie.Need-accepted-requires Inv-loop μ-loop
 accepted-requires c κs = search needs
 
--- src/drains.rt:42:5
 loop-holds : tie.Need-loop-holds Inv-loop μ-loop
 loop-holds c = (rw sub-zero refl, omega arith, refl, refl)
 
--- src/drains.rt:45:9
 step-requires : tie.Need-step-requires Inv-loop μ-loop
 step-requires c κs = search needs
 
--- src/drains.rt:46:9
 add-steps : tie.Need-add-steps Inv-loop μ-loop
 add-steps c = search needs
 
--- src/drains.rt:48:13
 goes-on-requires : tie.Need-goes-on-requires Inv-loop μ-loop
 goes-on-requires c κs = search needs
 
--- src/drains.rt:49:13
 same-length : tie.Need-same-length Inv-loop μ-loop
 same-length c = c .before .before .before .before .before .before .before .step .kept .1 .1 .1 .1 .0 ∙ c .before .before .before .before .before .before .before .before .before .before .before .before .before .loop .inv .2
 
--- src/drains.rt:49:13
 same-length-2 : tie.Need-same-length-2 Inv-loop μ-loop
 same-length-2 c = c .before .before .before .before .before .before .before .step .kept .1 .1 .1 .1 .1 .0 ∙ c .before .before .before .before .before .before .before .before .before .before .before .before .before .loop .inv .3
 
--- src/drains.rt:49:13
 returns : tie.Need-returns Inv-loop μ-loop
 returns c = let k = sym (c .before .goes-on .ensures) ∙ not-true _ (c .if1 .taken) in sym (run-stops (again _ _) going _ _ _ _ (c .before .before .before .before .before .before .before .step .ensures) (c .before .before .before .before .before .before .before .before .before .before .before .before .loop-test .taken) k) ∙ c .before .before .before .before .before .before .before .before .before .before .before .before .before .loop .inv .0 ∙ rw (c .before .before .before .before .before .before .before .before .before .before .before .before .before .before .accepted .ensures) refl
 
--- src/drains.rt:42:5
 loop-less : tie.Need-loop-less Inv-loop μ-loop
 loop-less c = omega arith
 
--- src/drains.rt:42:5
 loop-again : tie.Need-loop-again Inv-loop μ-loop
 loop-again c = let k = sym (c .before .goes-on .ensures) ∙ not-false _ (c .if1 .left) in let t = c .before .before .before .before .before .before .before .before .before .before .before .before .loop-test .taken in (sym (run-goes (again _ _) going _ _ _ _ (c .before .before .before .before .before .before .before .step .ensures) t k) ∙ c .before .before .before .before .before .before .before .before .before .before .before .before .before .loop .inv .0, omega (arith, t), c .before .before .before .before .before .before .before .step .kept .1 .1 .1 .1 .0 ∙ c .before .before .before .before .before .before .before .before .before .before .before .before .before .loop .inv .2, c .before .before .before .before .before .before .before .step .kept .1 .1 .1 .1 .1 .0 ∙ c .before .before .before .before .before .before .before .before .before .before .before .before .before .loop .inv .3)
 
--- src/drains.rt:25:1
 same-length-3 : tie.Need-same-length-3 Inv-loop μ-loop
 same-length-3 c = search needs
 
--- src/drains.rt:25:1
 same-length-4 : tie.Need-same-length-4 Inv-loop μ-loop
 same-length-4 c = search needs
 
--- src/drains.rt:25:1
 returns-2 : tie.Need-returns-2 Inv-loop μ-loop
 returns-2 c = sym (run-ends (again _ _) going _ _ _ (c .loop-test .left)) ∙ c .before .loop .inv .0 ∙ rw (c .before .before .accepted .ensures) refl
 

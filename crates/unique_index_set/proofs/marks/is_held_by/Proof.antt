@@ -1,46 +1,34 @@
 use borrow.Author.Needs.{needs}
 use Rattle.unique_index_set.proofs.marks.is_held_by.Statement.{statement}
 use Rattle.unique_index_set.proofs.marks.is_held_by.Tie as tie
-use Rattle.unique_index_set.proofs.marks.is_held_by.Reads as reads
-use Rattle.unique_index_set.proofs.marks.is_held_by.Lts as lts
 
--- src/marks.rt:75:26
 enum-told : tie.Need-enum-told
 enum-told c = search needs
 
--- src/marks.rt:76:33
 enum-told-2 : tie.Need-enum-told-2
 enum-told-2 c = search needs
 
--- src/marks.rt:77:23
 enum-known-what : tie.Need-enum-known-what
 enum-known-what c = search needs
 
--- src/marks.rt:78:34
 enum-told-3 : tie.Need-enum-told-3
 enum-told-3 c = search needs
 
--- src/marks.rt:79:29
 enum-told-4 : tie.Need-enum-told-4
 enum-told-4 c = search needs
 
--- src/marks.rt:71:1
 returns : tie.Need-returns
 returns c = search needs
 
--- src/marks.rt:71:1
 returns-2 : tie.Need-returns-2
 returns-2 c = search needs
 
--- src/marks.rt:71:1
 returns-3 : tie.Need-returns-3
 returns-3 c = simp (c .before .before .before .what .given .1)
 
--- src/marks.rt:71:1
 returns-4 : tie.Need-returns-4
 returns-4 c = search needs
 
--- src/marks.rt:71:1
 returns-5 : tie.Need-returns-5
 returns-5 c = search needs
 

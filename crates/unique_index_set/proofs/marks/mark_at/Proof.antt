@@ -1,101 +1,73 @@
-use mathlib.Core.Path.{refl}
 use borrow.Author.Needs.{needs}
 use Rattle.unique_index_set.proofs.marks.mark_at.Statement.{statement}
 use Rattle.unique_index_set.proofs.marks.mark_at.Tie as tie
-use Rattle.unique_index_set.proofs.marks.mark_at.Reads as reads
-use Rattle.unique_index_set.proofs.marks.mark_at.Lts as lts
-use Rattle.head_details.proofs.HeadDetails.from.Reads as from-reads
-use Rattle.unique_index_set.proofs.marks.release_mark.Reads as release-mark-reads
 
--- src/marks.rt:34:31
 enum-told : tie.Need-enum-told
 enum-told c = search needs
 
--- src/marks.rt:35:34
 enum-told-2 : tie.Need-enum-told-2
 enum-told-2 c = search needs
 
--- src/marks.rt:36:32
 enum-known-place : tie.Need-enum-known-place
 enum-known-place c = search needs
 
--- src/marks.rt:38:21
 from-requires : tie.Need-from-requires
 from-requires c κs = search needs
 
--- src/marks.rt:40:17
 returns : tie.Need-returns
 returns c = simp (← c .before .from .ensures .head, c .before .before .if1 .taken, c .before .before .before .before .place .given .1)
 
--- src/marks.rt:44:29
 enum-known-place-2 : tie.Need-enum-known-place-2
 enum-known-place-2 c = search needs
 
--- src/marks.rt:45:28
 enum-known-place-3 : tie.Need-enum-known-place-3
 enum-known-place-3 c = search needs
 
--- src/marks.rt:45:41
 release-mark-requires : tie.Need-release-mark-requires
 release-mark-requires c κs = search needs
 
--- src/marks.rt:46:41
 enum-told-3 : tie.Need-enum-told-3
 enum-told-3 c = search needs
 
--- src/marks.rt:47:32
 enum-known-place-4 : tie.Need-enum-known-place-4
 enum-known-place-4 c = search needs
 
--- src/marks.rt:49:17
 returns-2 : tie.Need-returns-2
 returns-2 c = simp (c .if2 .taken, c .before .before .place4 .given .1)
 
--- src/marks.rt:51:13
 release-mark-requires-2 : tie.Need-release-mark-requires-2
 release-mark-requires-2 c κs = search needs
 
--- src/marks.rt:53:32
 enum-told-4 : tie.Need-enum-told-4
 enum-told-4 c = search needs
 
--- src/marks.rt:54:30
 enum-told-5 : tie.Need-enum-told-5
 enum-told-5 c = search needs
 
--- src/marks.rt:30:1
 returns-3 : tie.Need-returns-3
 returns-3 c = search needs
 
--- src/marks.rt:30:1
 returns-4 : tie.Need-returns-4
 returns-4 c = search needs
 
--- src/marks.rt:30:1
 returns-5 : tie.Need-returns-5
 returns-5 c = search needs
 
--- src/marks.rt:30:1
 returns-6 : tie.Need-returns-6
 returns-6 c = simp (c .before .place2 .given .1)
 
--- src/marks.rt:30:1
 returns-7 : tie.Need-returns-7
 returns-7 c = simp (c .release-mark .ensures, c .before .before .place3 .given .1)
 
--- src/marks.rt:30:1
 returns-8 : tie.Need-returns-8
 returns-8 c = search needs
 
--- src/marks.rt:30:1
 returns-9 : tie.Need-returns-9
 returns-9 c = simp (c .release-mark2 .ensures, c .before .if2 .left, c .before .before .before .place4 .given .1)
 
--- src/marks.rt:30:1
 returns-10 : tie.Need-returns-10
 returns-10 c = search needs
 
--- src/marks.rt:30:1
 returns-11 : tie.Need-returns-11
 returns-11 c = search needs
 

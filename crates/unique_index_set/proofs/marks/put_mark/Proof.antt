@@ -2,42 +2,31 @@ use borrow.Author.Tests.{ltb-true}
 use borrow.Author.Needs.{needs}
 use Rattle.unique_index_set.proofs.marks.put_mark.Statement.{statement}
 use Rattle.unique_index_set.proofs.marks.put_mark.Tie as tie
-use Rattle.unique_index_set.proofs.marks.put_mark.Reads as reads
-use Rattle.unique_index_set.proofs.marks.put_mark.Lts as lts
-use Rattle.custody.proofs.Custody.entry.Reads as entry-reads
 
 enum-told : tie.Need-enum-told
 enum-told c = search needs
 
--- src/marks.rt:64:18
 enum-known-mark : tie.Need-enum-known-mark
 enum-known-mark c = search needs
 
--- src/marks.rt:65:22
 cast-at : tie.Need-cast-at
 cast-at c = search needs
 
--- src/marks.rt:66:27
 entry-requires : tie.Need-entry-requires
 entry-requires c κs = search needs
 
--- src/marks.rt:66:13
 mul-custody : tie.Need-mul-custody
 mul-custody c = search needs
 
--- src/marks.rt:66:13
 slice-write-custody : tie.Need-slice-write-custody
 slice-write-custody c = ltb-true _ _ (rw (c .before .before .before .mark .given .1) at (c .before .before .before .before .before .before .pre))
 
--- src/marks.rt:58:1
 returns : tie.Need-returns
 returns c = search needs
 
--- src/marks.rt:58:1
 same-length : tie.Need-same-length
 same-length c = search needs
 
--- src/marks.rt:58:1
 returns-2 : tie.Need-returns-2
 returns-2 c = simp (c .entry .ensures, c .before .before .before .mark .given .1)
 

@@ -1,103 +1,74 @@
-use Rattle.unique_index_set.proofs.Sound.{exchange-borrowed}
-use mathlib.Core.Path.{refl}
 use borrow.Author.Needs.{needs}
+use Rattle.unique_index_set.proofs.Sound.{exchange-borrowed}
 use Rattle.unique_index_set.proofs.moves.access_at.Statement.{statement}
 use Rattle.unique_index_set.proofs.moves.access_at.Tie as tie
-use Rattle.unique_index_set.proofs.moves.access_at.Reads as reads
-use Rattle.unique_index_set.proofs.moves.access_at.Lts as lts
-use Rattle.head_details.proofs.HeadDetails.from.Reads as from-reads
-use Rattle.unique_index_set.proofs.moves.acquired_word.Reads as acquired-word-reads
-use Rattle.unique_index_set.proofs.moves.released_word.Reads as released-word-reads
 
--- src/moves.rt:156:31
 enum-told : tie.Need-enum-told
 enum-told c = search needs
 
--- src/moves.rt:157:28
 enum-known-place : tie.Need-enum-known-place
 enum-known-place c = search needs
 
--- src/moves.rt:158:17
 from-requires : tie.Need-from-requires
 from-requires c κs = search needs
 
--- src/moves.rt:162:32
 enum-known-place-2 : tie.Need-enum-known-place-2
 enum-known-place-2 c = search needs
 
--- src/moves.rt:162:71
 acquired-word-requires : tie.Need-acquired-word-requires
 acquired-word-requires c κs = search needs
 
--- src/moves.rt:163:29
 enum-known-place-3 : tie.Need-enum-known-place-3
 enum-known-place-3 c = search needs
 
--- src/moves.rt:163:60
 add-t17 : tie.Need-add-t17
 add-t17 c = search needs
 
--- src/moves.rt:164:37
 enum-told-2 : tie.Need-enum-told-2
 enum-told-2 c = search needs
 
--- src/moves.rt:165:29
 enum-known-place-4 : tie.Need-enum-known-place-4
 enum-known-place-4 c = search needs
 
--- src/moves.rt:166:17
 from-requires-2 : tie.Need-from-requires-2
 from-requires-2 c κs = search needs
 
--- src/moves.rt:169:32
 enum-known-place-5 : tie.Need-enum-known-place-5
 enum-known-place-5 c = search needs
 
--- src/moves.rt:171:13
 released-word-requires : tie.Need-released-word-requires
 released-word-requires c κs = exchange-borrowed _ _ (c .before .place5 .given .1) (c .before .before .before .pre .0)
 
--- src/moves.rt:173:32
 enum-told-3 : tie.Need-enum-told-3
 enum-told-3 c = search needs
 
--- src/moves.rt:174:30
 enum-told-4 : tie.Need-enum-told-4
 enum-told-4 c = search needs
 
--- src/moves.rt:151:1
 returns : tie.Need-returns
 returns c = search needs
 
--- src/moves.rt:151:1
 returns-2 : tie.Need-returns-2
 returns-2 c = simp (← c .before .from .ensures .head, c .before .before .before .place .given .1)
 
--- src/moves.rt:151:1
 returns-3 : tie.Need-returns-3
 returns-3 c = simp (c .acquired-word .ensures, c .before .before .place2 .given .1)
 
--- src/moves.rt:151:1
 returns-4 : tie.Need-returns-4
 returns-4 c = simp (c .before .place3 .given .1)
 
--- src/moves.rt:151:1
 returns-5 : tie.Need-returns-5
 returns-5 c = search needs
 
--- src/moves.rt:151:1
 returns-6 : tie.Need-returns-6
 returns-6 c = simp (c .from2 .ensures .head, c .before .before .place4 .given .1)
 
--- src/moves.rt:151:1
 returns-7 : tie.Need-returns-7
 returns-7 c = simp (c .released-word .ensures, c .before .before .place5 .given .1)
 
--- src/moves.rt:151:1
 returns-8 : tie.Need-returns-8
 returns-8 c = search needs
 
--- src/moves.rt:151:1
 returns-9 : tie.Need-returns-9
 returns-9 c = search needs
 

@@ -1,74 +1,54 @@
-use borrow.Author.Tests.{ltb-true}
+use borrow.Author.Tests.{ltb-true, ne-eqb, eq-eqb}
 use mathlib.Core.Path.{refl}
-use borrow.Author.Tests.{ne-eqb}
-use borrow.Author.Tests.{eq-eqb}
 use borrow.Author.Needs.{needs}
 use Rattle.unique_index_set.proofs.moves.perform.Statement.{statement}
 use Rattle.unique_index_set.proofs.moves.perform.Tie as tie
-use Rattle.unique_index_set.proofs.moves.perform.Reads as reads
-use Rattle.unique_index_set.proofs.moves.perform.Lts as lts
 
--- src/moves.rt:53:18
 enum-told : tie.Need-enum-told
 enum-told c = search needs
 
--- src/moves.rt:59:26
 enum-known-access : tie.Need-enum-known-access
 enum-known-access c = search needs
 
--- src/moves.rt:61:17
 returns : tie.Need-returns
 returns c = simp (eq-eqb _ _ (c .if1 .taken), c .before .before .access .given .1) (refl, refl, refl)
 
--- src/moves.rt:79:22
 enum-known-access-2 : tie.Need-enum-known-access-2
 enum-known-access-2 c = search needs
 
--- src/moves.rt:80:22
 cast-at : tie.Need-cast-at
 cast-at c = search needs
 
--- src/moves.rt:81:25
 mul-value : tie.Need-mul-value
 mul-value c = search needs
 
--- src/moves.rt:81:25
 slice-read-value : tie.Need-slice-read-value
 slice-read-value c = ltb-true _ _ (rw (c .before .before .before .access2 .given .1) at (c .before .before .before .before .before .pre))
 
--- src/moves.rt:91:23
 enum-known-access-3 : tie.Need-enum-known-access-3
 enum-known-access-3 c = search needs
 
--- src/moves.rt:92:22
 cast-at-2 : tie.Need-cast-at-2
 cast-at-2 c = search needs
 
--- src/moves.rt:93:13
 mul-slots : tie.Need-mul-slots
 mul-slots c = search needs
 
--- src/moves.rt:93:13
 slice-write-slots : tie.Need-slice-write-slots
 slice-write-slots c = ltb-true _ _ (rw (c .before .before .access3 .given .1) at (c .before .before .before .before .pre))
 
--- src/moves.rt:46:1
 returns-2 : tie.Need-returns-2
 returns-2 c = simp (c .enum-told .given .1) (refl, refl, refl)
 
--- src/moves.rt:46:1
 returns-3 : tie.Need-returns-3
 returns-3 c = simp (ne-eqb _ _ (c .if1 .left), c .before .before .access .given .1) (refl, refl, refl)
 
--- src/moves.rt:46:1
 returns-4 : tie.Need-returns-4
 returns-4 c = simp (c .before .before .before .access2 .given .1) (refl, refl, refl)
 
--- src/moves.rt:46:1
 same-length : tie.Need-same-length
 same-length c = search needs
 
--- src/moves.rt:46:1
 returns-5 : tie.Need-returns-5
 returns-5 c = simp (c .before .before .access3 .given .1) (refl, refl, refl)
 

@@ -1,34 +1,23 @@
-use mathlib.Core.Path.{refl}
-use borrow.Author.Tests.{ne-eqb}
-use borrow.Author.Tests.{eq-eqb}
+use borrow.Author.Tests.{ne-eqb, eq-eqb}
 use borrow.Author.Needs.{needs}
 use Rattle.unique_index_set.proofs.moves.release_state.Statement.{statement}
 use Rattle.unique_index_set.proofs.moves.release_state.Tie as tie
-use Rattle.unique_index_set.proofs.moves.release_state.Reads as reads
-use Rattle.unique_index_set.proofs.moves.release_state.Lts as lts
-use Rattle.head_details.proofs.HeadDetails.from.Reads as from-reads
 
--- src/moves.rt:206:9
 from-requires : tie.Need-from-requires
 from-requires c κs = search needs
 
--- src/moves.rt:208:33
 enum-told : tie.Need-enum-told
 enum-told c = search needs
 
--- src/moves.rt:210:16
 enum-told-2 : tie.Need-enum-told-2
 enum-told-2 c = search needs
 
--- src/moves.rt:211:17
 returns : tie.Need-returns
 returns c = simp (← c .before .before .before .before .from .ensures .borrowed, eq-eqb _ _ (c .if1 .taken), c .before .before .enum-told2 .given .1)
 
--- src/moves.rt:203:1
 returns-2 : tie.Need-returns-2
 returns-2 c = search needs
 
--- src/moves.rt:203:1
 returns-3 : tie.Need-returns-3
 returns-3 c = simp (← c .before .before .before .before .from .ensures .borrowed, ne-eqb _ _ (c .if1 .left), c .before .before .enum-told2 .given .1)
 

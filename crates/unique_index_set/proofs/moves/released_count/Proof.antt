@@ -1,36 +1,26 @@
-use borrow.Author.Tests.{ne-eqb}
-use borrow.Author.Tests.{eq-eqb}
+use borrow.Author.Tests.{ne-eqb, eq-eqb}
 use borrow.Author.Needs.{needs}
 use Rattle.unique_index_set.proofs.moves.released_count.Statement.{statement}
 use Rattle.unique_index_set.proofs.moves.released_count.Tie as tie
-use Rattle.unique_index_set.proofs.moves.released_count.Reads as reads
-use Rattle.unique_index_set.proofs.moves.released_count.Lts as lts
 
--- src/moves.rt:125:33
 enum-told : tie.Need-enum-told
 enum-told c = search needs
 
--- src/moves.rt:125:33
 sub-result : tie.Need-sub-result
 sub-result c = search needs
 
--- src/moves.rt:127:16
 enum-told-2 : tie.Need-enum-told-2
 enum-told-2 c = search needs
 
--- src/moves.rt:128:17
 returns : tie.Need-returns
 returns c = simp (eq-eqb _ _ (c .if1 .taken), c .before .enum-told2 .given .1)
 
--- src/moves.rt:130:13
 sub-result-2 : tie.Need-sub-result-2
 sub-result-2 c = search needs
 
--- src/moves.rt:120:1
 returns-2 : tie.Need-returns-2
 returns-2 c = simp (c .enum-told .given .1)
 
--- src/moves.rt:120:1
 returns-3 : tie.Need-returns-3
 returns-3 c = simp (ne-eqb _ _ (c .if1 .left), c .before .enum-told2 .given .1)
 

@@ -1,16 +1,13 @@
-use Rattle.unique_index_set.specs.Setups.{freeEntry}
-use Rattle.thread_records.proofs.Filled.{filled-none, filled-more}
-use Rattle.thread_records.specs.Filled.{filled}
 use borrow.Author.Needs.{needs}
 use lib.ListN.{length, length-set}
 use native.Mathlib.Omega.{arith}
 use mathlib.Core.Path.{_≡_, refl}
-use Prim.Native.Nat.{_+_, _-_, _≤_}
+use Prim.Native.Nat.{_-_, _≤_}
+use Rattle.unique_index_set.specs.Setups.{freeEntry}
+use Rattle.thread_records.proofs.Filled.{filled-none, filled-more}
+use Rattle.thread_records.specs.Filled.{filled}
 use Rattle.unique_index_set.proofs.setups.free_custody.Statement.{statement}
 use Rattle.unique_index_set.proofs.setups.free_custody.Tie as tie
-use Rattle.unique_index_set.proofs.setups.free_custody.Reads as reads
-use Rattle.unique_index_set.proofs.setups.free_custody.Lts as lts
-use Rattle.custody.proofs.Custody.entry.Reads as entry-reads
 
 abbrev Inv-loop : tie.InvT-loop
 Inv-loop custody₀ n free i₀ custody i = (i ≤ n) × (custody ≡ filled freeEntry i custody₀) × (length custody ≡ length custody₀)
@@ -18,43 +15,33 @@ Inv-loop custody₀ n free i₀ custody i = (i ≤ n) × (custody ≡ filled fre
 abbrev μ-loop : tie.MeasureT-loop
 μ-loop custody₀ n free i₀ custody i = n - i
 
--- src/setups.rt:38:9
 entry-requires : tie.Need-entry-requires Inv-loop μ-loop
 entry-requires c κs = search needs
 
--- src/setups.rt:40:5
 loop-holds : tie.Need-loop-holds Inv-loop μ-loop
 loop-holds c = (omega arith, filled-none _ _, refl)
 
--- src/setups.rt:41:18
 cast-at : tie.Need-cast-at Inv-loop μ-loop
 cast-at c = search needs
 
--- src/setups.rt:42:9
 mul-custody : tie.Need-mul-custody Inv-loop μ-loop
 mul-custody c = search needs
 
--- src/setups.rt:42:9
 slice-write-custody : tie.Need-slice-write-custody Inv-loop μ-loop
 slice-write-custody c = omega arith
 
--- src/setups.rt:43:9
 add-i : tie.Need-add-i Inv-loop μ-loop
 add-i c = search needs
 
--- src/setups.rt:40:5
 loop-less : tie.Need-loop-less Inv-loop μ-loop
 loop-less c = omega arith
 
--- src/setups.rt:40:5
 loop-again : tie.Need-loop-again Inv-loop μ-loop
 loop-again c = let v = c .before .loop .inv in (omega arith, rw (c .before .before .entry .ensures) (filled-more freeEntry _ _ _ (v .1)), simp length-set (v .2))
 
--- src/setups.rt:34:1
 same-length : tie.Need-same-length Inv-loop μ-loop
 same-length c = c .before .loop .inv .2
 
--- src/setups.rt:34:1
 returns : tie.Need-returns Inv-loop μ-loop
 returns c = let v = c .before .loop .inv in let e : c .before .loop .i ≡ c .before .before .before .before .args .n = omega arith in rw (← e) (v .1)
 

@@ -1,59 +1,43 @@
 use borrow.Author.Needs.{needs}
 use Rattle.unique_index_set.proofs.starts.asked_call.Statement.{statement}
 use Rattle.unique_index_set.proofs.starts.asked_call.Tie as tie
-use Rattle.unique_index_set.proofs.starts.asked_call.Reads as reads
-use Rattle.unique_index_set.proofs.starts.asked_call.Lts as lts
-use Rattle.unique_index_set.proofs.starts.asked_release.Reads as asked-release-reads
 
--- src/starts.rt:60:26
 enum-told : tie.Need-enum-told
 enum-told c = search needs
 
--- src/starts.rt:61:26
 enum-told-2 : tie.Need-enum-told-2
 enum-told-2 c = search needs
 
--- src/starts.rt:61:26
 asked-release-requires : tie.Need-asked-release-requires
 asked-release-requires c κs = search needs
 
--- src/starts.rt:62:34
 enum-told-3 : tie.Need-enum-told-3
 enum-told-3 c = search needs
 
--- src/starts.rt:63:27
 enum-told-4 : tie.Need-enum-told-4
 enum-told-4 c = search needs
 
--- src/starts.rt:64:23
 enum-told-5 : tie.Need-enum-told-5
 enum-told-5 c = search needs
 
--- src/starts.rt:65:26
 enum-told-6 : tie.Need-enum-told-6
 enum-told-6 c = search needs
 
--- src/starts.rt:56:1
 returns : tie.Need-returns
 returns c = search needs
 
--- src/starts.rt:56:1
 returns-2 : tie.Need-returns-2
 returns-2 c = simp (c .asked-release .ensures, c .before .enum-told2 .given .1)
 
--- src/starts.rt:56:1
 returns-3 : tie.Need-returns-3
 returns-3 c = search needs
 
--- src/starts.rt:56:1
 returns-4 : tie.Need-returns-4
 returns-4 c = search needs
 
--- src/starts.rt:56:1
 returns-5 : tie.Need-returns-5
 returns-5 c = search needs
 
--- src/starts.rt:56:1
 returns-6 : tie.Need-returns-6
 returns-6 c = search needs
 

@@ -1,30 +1,21 @@
-use mathlib.Core.Path.{refl}
-use Rattle.unique_index_set.specs.Starts.{askedRelease}
 use borrow.Author.Needs.{needs}
+use Rattle.unique_index_set.specs.Starts.{askedRelease}
 use Rattle.unique_index_set.proofs.starts.asked_release.Statement.{statement}
 use Rattle.unique_index_set.proofs.starts.asked_release.Tie as tie
-use Rattle.unique_index_set.proofs.starts.asked_release.Reads as reads
-use Rattle.unique_index_set.proofs.starts.asked_release.Lts as lts
-use Rattle.unique_index_set_enums.proofs.read_mode.Reads as read-mode-reads
 
--- src/starts.rt:49:9
 read-mode-requires : tie.Need-read-mode-requires
 read-mode-requires c κs = search needs
 
--- src/starts.rt:51:25
 enum-known-mode : tie.Need-enum-known-mode
 enum-known-mode c = search needs
 
--- src/starts.rt:52:30
 enum-told : tie.Need-enum-told
 enum-told c = search needs
 
--- src/starts.rt:46:1
 returns : tie.Need-returns
 unfolding askedRelease
 returns c = simp (← c .before .before .before .read-mode .ensures, c .before .mode .given .1)
 
--- src/starts.rt:46:1
 returns-2 : tie.Need-returns-2
 unfolding askedRelease
 returns-2 c = simp (← c .before .before .read-mode .ensures, c .enum-told .given .1)

@@ -1,51 +1,37 @@
 use borrow.Author.Needs.{needs}
 use Rattle.unique_index_set.proofs.starts.is_not_held.Statement.{statement}
 use Rattle.unique_index_set.proofs.starts.is_not_held.Tie as tie
-use Rattle.unique_index_set.proofs.starts.is_not_held.Reads as reads
-use Rattle.unique_index_set.proofs.starts.is_not_held.Lts as lts
-use Rattle.unique_index_set.proofs.marks.is_holding.Reads as is-holding-reads
 
--- src/starts.rt:107:27
 enum-told : tie.Need-enum-told
 enum-told c = search needs
 
--- src/starts.rt:108:24
 enum-known-asked : tie.Need-enum-known-asked
 enum-known-asked c = search needs
 
--- src/starts.rt:108:38
 is-holding-requires : tie.Need-is-holding-requires
 is-holding-requires c κs = search needs
 
--- src/starts.rt:109:35
 enum-told-2 : tie.Need-enum-told-2
 enum-told-2 c = search needs
 
--- src/starts.rt:110:28
 enum-told-3 : tie.Need-enum-told-3
 enum-told-3 c = search needs
 
--- src/starts.rt:111:28
 enum-told-4 : tie.Need-enum-told-4
 enum-told-4 c = search needs
 
--- src/starts.rt:103:1
 returns : tie.Need-returns
 returns c = search needs
 
--- src/starts.rt:103:1
 returns-2 : tie.Need-returns-2
 returns-2 c = simp (c .is-holding .ensures, c .before .before .asked .given .1)
 
--- src/starts.rt:103:1
 returns-3 : tie.Need-returns-3
 returns-3 c = search needs
 
--- src/starts.rt:103:1
 returns-4 : tie.Need-returns-4
 returns-4 c = search needs
 
--- src/starts.rt:103:1
 returns-5 : tie.Need-returns-5
 returns-5 c = search needs
 

@@ -1,0 +1,153 @@
+-- The numbers that each call of the plain set can come back with, by the scope's own numbers. Assumes nothing.
+use Prim.Native.Nat.{ℕ}
+use mathlib.Core.Path.{_≡_, refl}
+use mathlib.Core.Bool.{Bool, true, false, cond}
+use mathlib.Core.List.{List, [], _∷_}
+use lib.Dec.{leb, eqb}
+use lib.ListN.{length}
+use Rattle.unique_index_set_enums.specs.declared.Index.{Index}
+use Rattle.unique_index_set_enums.specs.declared.RecordNumber.{RecordNumber}
+use Rattle.unique_index_set_enums.specs.declared.ReleaseMode.{ReleaseMode}
+use Rattle.unique_index_set_enums.specs.declared.UniqueIndexCreationError.the-variants.{ProvidedCapacityGreaterThanMaxCapacity, ProvidedCapacityIsZero}
+use Rattle.unique_index_set_enums.specs.Limits.{lockAcquire}
+use Rattle.unique_index_set_enums.proofs.Choice.{choose}
+use Rattle.calls.specs.declared.Refusal.{Refusal}
+use Rattle.calls.specs.declared.Refusal.the-variants as refusal
+use Rattle.calls.specs.declared.Refusal.the-variants.{Capacity, BufferTooShort, RecordNotReady, RecordDamaged, NotKnown, OwnerIsEmpty, IndexOutOfRange, IndexNotHeld}
+use Rattle.calls.specs.declared.Request.{Request}
+use Rattle.calls.specs.Numbers.{answerNumber}
+use Rattle.thread_records.specs.declared.Record.{Record}
+use Rattle.thread_records.proofs.Numbers.{among, RefusedAmong, FailedAmong, unchanged-among, taken-among, judged-among}
+use Rattle.head_details.specs.Word.{headOf, borrowedOf}
+use Rattle.plain_places.specs.declared.Place.{Place}
+use Rattle.plain_places.specs.declared.Place.the-variants.{AcquireLook, AcquireRead, AcquireExchange, AcquireWrite, ReleaseLook, ReleaseWrite, ReleaseExchange, BorrowedLook, LockedLook}
+use Rattle.plain_places.specs.declared.Opened.{Opened}
+use Rattle.plain_places.specs.declared.Opened.the-variants.{At, Damaged}
+use Rattle.plain_places.specs.Places.{mayRelease}
+use Rattle.unique_index_set.specs.declared.moves.Saw.{Saw}
+use Rattle.unique_index_set.specs.declared.moves.Next.{Next}
+use Rattle.unique_index_set.specs.declared.moves.Next.the-variants.{Going, Answered}
+use Rattle.unique_index_set.specs.declared.starts.Asked.{Asked}
+use Rattle.unique_index_set.specs.declared.starts.Asked.the-variants as asked
+use Rattle.unique_index_set.specs.Moves.{acquireLooked, releaseLooked, resumedAt}
+use Rattle.unique_index_set.specs.Steps.{Shared, advanced, nextAt, openedIn, stepTests, stepVerdict, stepJudged, steppedFrom, stepOf}
+use Rattle.unique_index_set.specs.Starts.{askedOf, startTests, startVerdict, startJudged, startedFrom, startOf}
+use Rattle.unique_index_set.specs.Setups.{setupTests, setupVerdict, setupJudged, setFresh, setupOf}
+use Rattle.unique_index_set.proofs.Refused.{next-taken}
+
+-- a setup is refused with 3, 4 or 10
+abbrev pub setupNumbers : List ℕ
+setupNumbers = 3 ∷ 4 ∷ 10 ∷ []
+
+setup-failed : (records capacity slots custody : ℕ) → FailedAmong setupNumbers (setupTests records capacity slots custody)
+setup-failed records capacity slots custody (Capacity ProvidedCapacityGreaterThanMaxCapacity) e = refl
+setup-failed records capacity slots custody (Capacity ProvidedCapacityIsZero) e = refl
+setup-failed records capacity slots custody BufferTooShort e = refl
+setup-failed records capacity slots custody RecordNotReady e = e
+setup-failed records capacity slots custody RecordDamaged e = e
+setup-failed records capacity slots custody NotKnown e = e
+setup-failed records capacity slots custody OwnerIsEmpty e = e
+setup-failed records capacity slots custody IndexOutOfRange e = e
+setup-failed records capacity slots custody IndexNotHeld e = e
+
+pub setup-numbers : (records capacity : ℕ) (s : Shared) (t : Record) → RefusedAmong setupNumbers (setupOf records capacity s t)
+unfolding setupOf setupVerdict
+setup-numbers records capacity s t =
+    judged-among setupNumbers (setupJudged records capacity s) (setupTests records capacity (length (s .slots)) (length (s .custody))) s t (setFresh capacity s) refl
+    (setup-failed records capacity (length (s .slots)) (length (s .custody))) (taken-among setupNumbers (setFresh capacity s) refl)
+
+-- a start with 3, 4, 10, 9, 13, 7 or 8
+abbrev pub startNumbers : List ℕ
+startNumbers = 3 ∷ 4 ∷ 10 ∷ 9 ∷ 13 ∷ 7 ∷ 8 ∷ []
+
+start-failed : (records : ℕ) (who : RecordNumber) (capacity slots : ℕ) (custody : List ℕ) (a : Asked) (t : Record) → FailedAmong startNumbers (startTests records who capacity slots custody a t)
+start-failed records who capacity slots custody a t (Capacity ProvidedCapacityGreaterThanMaxCapacity) e = refl
+start-failed records who capacity slots custody a t (Capacity ProvidedCapacityIsZero) e = refl
+start-failed records who capacity slots custody a t BufferTooShort e = refl
+start-failed records who capacity slots custody a t RecordNotReady e = refl
+start-failed records who capacity slots custody a t RecordDamaged e = e
+start-failed records who capacity slots custody a t NotKnown e = refl
+start-failed records who capacity slots custody a t OwnerIsEmpty e = e
+start-failed records who capacity slots custody a t IndexOutOfRange e = refl
+start-failed records who capacity slots custody a t IndexNotHeld e = refl
+
+started-among : (a : Asked) (who : RecordNumber) (s : Shared) (t : Record) → RefusedAmong startNumbers (startedFrom a who s t)
+started-among asked.Acquire who s t = taken-among startNumbers (startedFrom asked.Acquire who s t) refl
+started-among (asked.Release i m) who s t = taken-among startNumbers (startedFrom (asked.Release i m) who s t) refl
+started-among asked.BorrowedIndices who s t = taken-among startNumbers (startedFrom asked.BorrowedIndices who s t) refl
+started-among asked.IsLocked who s t = taken-among startNumbers (startedFrom asked.IsLocked who s t) refl
+started-among asked.NotKnown who s t = unchanged-among startNumbers s t NotKnown refl
+
+pub start-numbers : (records : ℕ) (who : RecordNumber) (request : Request) (s : Shared) (t : Record) → RefusedAmong startNumbers (startOf records who request s t)
+unfolding startOf startVerdict
+start-numbers records who request s t =
+    judged-among startNumbers (startJudged records who (askedOf request) s t)
+    (startTests records who (s .set .capacity) (length (s .slots)) (s .custody) (askedOf request) t) s t (startedFrom (askedOf request) who s t) refl
+    (start-failed records who (s .set .capacity) (length (s .slots)) (s .custody) (askedOf request) t) (started-among (askedOf request) who s t)
+
+-- a step with 3, 4, 10, 9 or 11
+abbrev pub stepNumbers : List ℕ
+stepNumbers = 3 ∷ 4 ∷ 10 ∷ 9 ∷ 11 ∷ []
+
+step-failed : (records : ℕ) (who : RecordNumber) (capacity slots custody : ℕ) (o : Opened) (t : Record) → FailedAmong stepNumbers (stepTests records who capacity slots custody o t)
+step-failed records who capacity slots custody o t (Capacity ProvidedCapacityGreaterThanMaxCapacity) e = refl
+step-failed records who capacity slots custody o t (Capacity ProvidedCapacityIsZero) e = refl
+step-failed records who capacity slots custody o t BufferTooShort e = refl
+step-failed records who capacity slots custody o t RecordNotReady e = refl
+step-failed records who capacity slots custody o t RecordDamaged e = refl
+step-failed records who capacity slots custody o t NotKnown e = e
+step-failed records who capacity slots custody o t OwnerIsEmpty e = e
+step-failed records who capacity slots custody o t IndexOutOfRange e = e
+step-failed records who capacity slots custody o t IndexNotHeld e = e
+
+stepped-among : (o : Opened) (who : RecordNumber) (s : Shared) (t : Record) → RefusedAmong stepNumbers (steppedFrom o who s t)
+unfolding advanced
+stepped-among (At p) who s t = taken-among stepNumbers (advanced who p (t .list) s) (next-taken (nextAt p s))
+stepped-among Damaged who s t = unchanged-among stepNumbers s t RecordDamaged refl
+
+pub step-numbers : (records : ℕ) (who : RecordNumber) (s : Shared) (t : Record) → RefusedAmong stepNumbers (stepOf records who s t)
+unfolding stepOf stepVerdict
+step-numbers records who s t =
+    judged-among stepNumbers (stepJudged records who s t)
+    (stepTests records who (s .set .capacity) (length (s .slots)) (length (s .custody)) (openedIn s t) t) s t (steppedFrom (openedIn s t) who s t) refl
+    (step-failed records who (s .set .capacity) (length (s .slots)) (length (s .custody)) (openedIn s t) t) (stepped-among (openedIn s t) who s t)
+
+-- an acquire answers 0, 1 or 2, a release 0 or 14, the two looks 0
+abbrev pub answerNumbers : Place → List ℕ
+answerNumbers AcquireLook = 0 ∷ 1 ∷ 2 ∷ []
+answerNumbers (AcquireRead seen) = 0 ∷ 1 ∷ 2 ∷ []
+answerNumbers (AcquireExchange seen value) = 0 ∷ 1 ∷ 2 ∷ []
+answerNumbers (AcquireWrite i) = 0 ∷ 1 ∷ 2 ∷ []
+answerNumbers (ReleaseLook i m) = 0 ∷ 14 ∷ []
+answerNumbers (ReleaseWrite i m seen) = 0 ∷ 14 ∷ []
+answerNumbers (ReleaseExchange i m seen) = 0 ∷ 14 ∷ []
+answerNumbers BorrowedLook = 0 ∷ []
+answerNumbers LockedLook = 0 ∷ []
+
+-- the call goes on as the same call, or answers with one of its numbers
+abbrev pub NextAmong : List ℕ → Next → Type 0
+NextAmong ns (Going q) = answerNumbers q ≡ ns
+NextAmong ns (Answered a) = among (answerNumber a) ns ≡ true
+
+acquire-among : (capacity w : ℕ) → NextAmong (0 ∷ 1 ∷ 2 ∷ []) (acquireLooked capacity w)
+unfolding acquireLooked
+acquire-among capacity w =
+    choose (NextAmong (0 ∷ 1 ∷ 2 ∷ [])) (leb capacity (headOf w)) _ _ (λ _. refl) (λ _.
+    choose (NextAmong (0 ∷ 1 ∷ 2 ∷ [])) (eqb (borrowedOf w) lockAcquire) _ _ (λ _. refl) (λ _. refl))
+
+release-among : (i : Index) (m : ReleaseMode) (w : ℕ) → NextAmong (0 ∷ 14 ∷ []) (releaseLooked i m w)
+unfolding releaseLooked
+release-among i m w = choose (NextAmong (0 ∷ 14 ∷ [])) (mayRelease w) _ _ (λ _. refl) (λ _. refl)
+
+pub next-among : (capacity : ℕ) (p : Place) (saw : Saw) → NextAmong (answerNumbers p) (resumedAt capacity p saw)
+next-among capacity AcquireLook saw = acquire-among capacity (saw .word)
+next-among capacity (AcquireRead seen) saw = refl
+next-among capacity (AcquireExchange seen value) saw =
+    choose (NextAmong (0 ∷ 1 ∷ 2 ∷ [])) (saw .won) _ _ (λ _. refl) (λ _. acquire-among capacity (saw .word))
+next-among capacity (AcquireWrite i) saw = refl
+next-among capacity (ReleaseLook i m) saw = release-among i m (saw .word)
+next-among capacity (ReleaseWrite i m seen) saw = refl
+next-among capacity (ReleaseExchange i m seen) saw =
+    choose (NextAmong (0 ∷ 14 ∷ [])) (saw .won) _ _ (λ _. refl) (λ _. release-among i m (saw .word))
+next-among capacity BorrowedLook saw = refl
+next-among capacity LockedLook saw = refl
