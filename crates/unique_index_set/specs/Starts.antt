@@ -22,10 +22,9 @@ use Rattle.calls.specs.declared.Verdict.{Verdict}
 use Rattle.calls.specs.Numbers.{callRead}
 use Rattle.calls.specs.Order.{verdictOf}
 use Rattle.calls.specs.Reports.{acceptedReport}
-use Rattle.thread_records.specs.declared.OwnerList.{OwnerList}
 use Rattle.thread_records.specs.declared.Record.{Record}
 use Rattle.thread_records.specs.Records.{liveRecord, notIdle}
-use Rattle.thread_records.specs.Effects.{Effect, unchanged, judged}
+use Rattle.thread_records.specs.Effects.{Effect, judged}
 use Rattle.custody.specs.declared.Custody.the-variants.{Giving}
 use Rattle.plain_places.specs.declared.Place.{Place}
 use Rattle.plain_places.specs.declared.Place.the-variants.{AcquireLook, ReleaseLook, BorrowedLook, LockedLook}
@@ -37,7 +36,7 @@ use Rattle.unique_index_set.specs.declared.starts.Asked.the-variants.{Ac
 use Rattle.unique_index_set.specs.declared.marks.Mark.{Mark}
 use Rattle.unique_index_set.specs.declared.marks.Mark.the-variants.{Nothing, As}
 use Rattle.unique_index_set.specs.Custodies.{marked, holds}
-use Rattle.unique_index_set.specs.Steps.{Shared, leaves, tooShort}
+use Rattle.unique_index_set.specs.Steps.{Shared, leaves, turnedAway, tooShort}
 
 -- what a request asks of a plain set: find, recover, an unknown call, and a release in an unknown mode are not known
 abbrev pub releaseIn : ModeRead → Request → Asked
@@ -116,19 +115,19 @@ startMark who IsLocked = Nothing
 startMark who NotKnown = Nothing
 
 -- the call enters at its first place
-abbrev pub enteredAs : UniqueIndexSet → Place → OwnerList → Stepped
-enteredAs set p list = record { set = set; thread = liveRecord (closedAt p) list; report = acceptedReport }
-
-abbrev pub entered : Place → Mark → Shared → Record → Effect Shared
-entered p mark s t = leaves (enteredAs (s .set) p (t .list)) (s .slots) (marked mark (s .custody))
+abbrev pub enteredAt : Place → UniqueIndexSet → Record → Stepped
+enteredAt p set t = record { set = set; thread = liveRecord (closedAt p) (t .list); report = acceptedReport }
 
 -- what is accepted is known, so the last case is of none
+abbrev pub enteredFor : Asked → UniqueIndexSet → Record → Stepped
+enteredFor Acquire set t = enteredAt AcquireLook set t
+enteredFor (Release i m) set t = enteredAt (ReleaseLook i m) set t
+enteredFor BorrowedIndices set t = enteredAt BorrowedLook set t
+enteredFor IsLocked set t = enteredAt LockedLook set t
+enteredFor NotKnown set t = turnedAway set t refusal.NotKnown
+
 abbrev pub startedFrom : Asked → RecordNumber → Shared → Record → Effect Shared
-startedFrom Acquire who s t = entered AcquireLook (startMark who Acquire) s t
-startedFrom (Release i m) who s t = entered (ReleaseLook i m) (startMark who (Release i m)) s t
-startedFrom BorrowedIndices who s t = entered BorrowedLook (startMark who BorrowedIndices) s t
-startedFrom IsLocked who s t = entered LockedLook (startMark who IsLocked) s t
-startedFrom NotKnown who s t = unchanged s t refusal.NotKnown
+startedFrom asked who s t = leaves (enteredFor asked (s .set) t) (s .slots) (marked (startMark who asked) (s .custody))
 
 -- the start, by the record whose number is `who`, of what is requested
 unfoldable pub startOf : ℕ → RecordNumber → Request → Shared → Record → Effect Shared

@@ -17,7 +17,6 @@ use calls::read_call;
 use custody::Custody;
 use plain_places::Place;
 use plain_places::close;
-use thread_records::OwnerList;
 use thread_records::Record;
 use thread_records::is_not_idle;
 use thread_records::live_record;
@@ -32,7 +31,7 @@ ghost use mathlib.Core.Bool.{true};
 ghost use lib.ListN.{length};
 ghost use Rattle.unique_index_set.specs.Custodies.{markWithin};
 ghost use Rattle.unique_index_set.specs.Steps.{shared, leaves};
-ghost use Rattle.unique_index_set.specs.Starts.{askedRelease, askedCall, askedOf, isNotKnown, isOutOfRange, isNotHeld, startVerdict, startMark, enteredAs, startOf};
+ghost use Rattle.unique_index_set.specs.Starts.{askedRelease, askedCall, askedOf, isNotKnown, isOutOfRange, isNotHeld, startVerdict, startMark, enteredAt, enteredFor, startOf};
 
 // What a request asks of a plain set.
 pub enum Asked {
@@ -150,14 +149,28 @@ fn start_mark(who: RecordNumber, asked: Asked) -> Mark
     }
 }
 
-// The call entered at its first place.
-fn enter(set: UniqueIndexSet, place: Place, list: OwnerList) -> Stepped
-    ensures { λ r. ⌜ r ≡ enteredAs set place list ⌝ }
+// The call entered at a place.
+fn enter_at(place: Place, set: UniqueIndexSet, thread: Record) -> Stepped
+    ensures { λ r. ⌜ r ≡ enteredAt place set thread ⌝ }
 {
+    let list = thread.list;
     Stepped {
         set: set,
         thread: live_record(close(place), list),
         report: Report::accepted(),
+    }
+}
+
+// The call entered at its first place. What is not known is not accepted, and enters none.
+fn enter(asked: Asked, set: UniqueIndexSet, thread: Record) -> Stepped
+    ensures { λ r. ⌜ r ≡ enteredFor asked set thread ⌝ }
+{
+    match asked {
+        Asked::Acquire => enter_at(Place::AcquireLook, set, thread),
+        Asked::Release(index, mode) => enter_at(Place::ReleaseLook(index, mode), set, thread),
+        Asked::BorrowedIndices => enter_at(Place::BorrowedLook, set, thread),
+        Asked::IsLocked => enter_at(Place::LockedLook, set, thread),
+        Asked::NotKnown => turned_away(set, thread, Refusal::NotKnown),
     }
 }
 
@@ -173,7 +186,6 @@ pub fn start(
 ) -> Stepped
     ensures { λ r. ⌜ leaves r (now (slots .exit)) (now (custody .exit)) ≡ startOf records who request (shared set (now (slots .entry)) (now (custody .entry))) thread ⌝ }
 {
-    let list = thread.list;
     let asked = asked_of(request);
     let verdict = start_verdict(
         records,
@@ -188,13 +200,7 @@ pub fn start(
         Verdict::Refused(why) => turned_away(set, thread, why),
         Verdict::Accepted => {
             put_mark(start_mark(who, asked), custody);
-            match asked {
-                Asked::Acquire => enter(set, Place::AcquireLook, list),
-                Asked::Release(index, mode) => enter(set, Place::ReleaseLook(index, mode), list),
-                Asked::BorrowedIndices => enter(set, Place::BorrowedLook, list),
-                Asked::IsLocked => enter(set, Place::LockedLook, list),
-                Asked::NotKnown => turned_away(set, thread, Refusal::NotKnown),
-            }
+            enter(asked, set, thread)
         }
     }
 }
