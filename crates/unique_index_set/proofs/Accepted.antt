@@ -22,11 +22,13 @@ use Rattle.plain_places.specs.declared.Opened.{Opened}
 use Rattle.plain_places.specs.declared.Opened.the-variants.{At, Damaged}
 use Rattle.plain_places.specs.Places.{sound, openedAt}
 use Rattle.plain_places.proofs.Laws.{opened-sound}
-use Rattle.unique_index_set.specs.declared.starts.Asked.{Asked}
-use Rattle.unique_index_set.specs.declared.starts.Asked.the-variants.{Acquire, Release, BorrowedIndices, IsLocked, NotKnown}
+use Rattle.plain_calls.specs.declared.asks.Asked.{Asked}
+use Rattle.plain_calls.specs.declared.asks.Asked.the-variants.{Acquire, Release, BorrowedIndices, IsLocked, NotKnown}
 use Rattle.unique_index_set.specs.Custodies.{markWithin}
 use Rattle.unique_index_set.specs.Steps.{Shared, tooShort, stepTests, stepVerdict}
-use Rattle.unique_index_set.specs.Starts.{isOutOfRange, startTests, startVerdict, startJudged, startMark}
+use Rattle.plain_calls.specs.Asks.{isOutOfRange}
+use Rattle.unique_index_set.specs.Starts.{startTests, startVerdict, startJudged}
+use Rattle.plain_calls.specs.Marks.{startMark}
 use Rattle.unique_index_set.specs.Setups.{tooLarge, setupShort, setupTests, setupVerdict}
 
 -- buffers that are long enough for a capacity within the limit

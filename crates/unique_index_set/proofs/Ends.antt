@@ -20,8 +20,8 @@ use Rattle.thread_records.specs.Drains.{going, begun, drained}
 use Rattle.thread_records.proofs.Effects.{Unchanged, Harmless, taken, taken-harmless, unchanged-harmless}
 use Rattle.plain_places.specs.declared.Place.{Place}
 use Rattle.plain_places.specs.declared.Place.the-variants.{AcquireLook, AcquireRead, AcquireExchange, AcquireWrite, ReleaseLook, ReleaseWrite, ReleaseExchange, BorrowedLook, LockedLook}
-use Rattle.unique_index_set.specs.declared.moves.Next.the-variants.{Going, Answered}
-use Rattle.unique_index_set.specs.Moves.{accessAt, wordAfter}
+use Rattle.plain_calls.specs.declared.resumes.Next.the-variants.{Going, Answered}
+use Rattle.unique_index_set.specs.Accesses.{accessAt, wordAfter}
 use Rattle.unique_index_set.specs.Steps.{Shared, nextAt, sharedAfter, stepJudged, stepOf}
 use Rattle.unique_index_set.specs.Drains.{again, drainOf}
 use Rattle.unique_index_set.proofs.Stays.{Ready, further, nearer, going-sound, ready-sound, accepted-ready}

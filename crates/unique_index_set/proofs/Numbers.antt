@@ -24,14 +24,15 @@ use Rattle.plain_places.specs.declared.Place.the-variants.{AcquireLook, Acquire
 use Rattle.plain_places.specs.declared.Opened.{Opened}
 use Rattle.plain_places.specs.declared.Opened.the-variants.{At, Damaged}
 use Rattle.plain_places.specs.Places.{mayRelease}
-use Rattle.unique_index_set.specs.declared.moves.Saw.{Saw}
-use Rattle.unique_index_set.specs.declared.moves.Next.{Next}
-use Rattle.unique_index_set.specs.declared.moves.Next.the-variants.{Going, Answered}
-use Rattle.unique_index_set.specs.declared.starts.Asked.{Asked}
-use Rattle.unique_index_set.specs.declared.starts.Asked.the-variants as asked
-use Rattle.unique_index_set.specs.Moves.{acquireLooked, releaseLooked, resumedAt}
+use Rattle.plain_calls.specs.declared.resumes.Saw.{Saw}
+use Rattle.plain_calls.specs.declared.resumes.Next.{Next}
+use Rattle.plain_calls.specs.declared.resumes.Next.the-variants.{Going, Answered}
+use Rattle.plain_calls.specs.declared.asks.Asked.{Asked}
+use Rattle.plain_calls.specs.declared.asks.Asked.the-variants as asked
+use Rattle.plain_calls.specs.Resumes.{acquireLooked, releaseLooked, resumedAt}
 use Rattle.unique_index_set.specs.Steps.{Shared, advanced, nextAt, openedIn, stepTests, stepVerdict, stepJudged, steppedFrom, stepOf}
-use Rattle.unique_index_set.specs.Starts.{askedOf, startTests, startVerdict, startJudged, startedFrom, startOf}
+use Rattle.plain_calls.specs.Asks.{askedOf}
+use Rattle.unique_index_set.specs.Starts.{startTests, startVerdict, startJudged, startedFrom, startOf}
 use Rattle.unique_index_set.specs.Setups.{setupTests, setupVerdict, setupJudged, setFresh, setupOf}
 use Rattle.unique_index_set.proofs.Refused.{next-taken}
 

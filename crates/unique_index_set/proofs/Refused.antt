@@ -28,17 +28,18 @@ use Rattle.plain_places.specs.declared.Opened.{Opened}
 use Rattle.plain_places.specs.declared.Opened.the-variants.{At, Damaged}
 use Rattle.plain_places.specs.Places.{sound, closedAt}
 use Rattle.custody.specs.declared.Custody.the-variants.{Giving}
-use Rattle.unique_index_set.specs.declared.moves.Next.{Next}
-use Rattle.unique_index_set.specs.declared.moves.Next.the-variants.{Going, Answered}
-use Rattle.unique_index_set.specs.declared.marks.Mark.{Mark}
-use Rattle.unique_index_set.specs.declared.marks.Mark.the-variants.{Nothing, As}
-use Rattle.unique_index_set.specs.declared.starts.Asked.{Asked}
-use Rattle.unique_index_set.specs.declared.starts.Asked.the-variants.{Acquire, Release, BorrowedIndices, IsLocked, NotKnown}
+use Rattle.plain_calls.specs.declared.resumes.Next.{Next}
+use Rattle.plain_calls.specs.declared.resumes.Next.the-variants.{Going, Answered}
+use Rattle.plain_calls.specs.declared.marks.Mark.{Mark}
+use Rattle.plain_calls.specs.declared.marks.Mark.the-variants.{Nothing, As}
+use Rattle.plain_calls.specs.declared.asks.Asked.{Asked}
+use Rattle.plain_calls.specs.declared.asks.Asked.the-variants.{Acquire, Release, BorrowedIndices, IsLocked, NotKnown}
 use Rattle.unique_index_set.specs.declared.steps.Stepped.{Stepped}
 use Rattle.unique_index_set.specs.declared.drains.Drained.{Drained}
 use Rattle.unique_index_set.specs.Custodies.{marked}
 use Rattle.unique_index_set.specs.Steps.{Shared, shared, leaves, threadAfter, reportAfter, nextAt, sharedAfter, advanced, openedIn, stepJudged, steppedFrom, stepOf}
-use Rattle.unique_index_set.specs.Starts.{askedOf, startJudged, startedFrom, startOf}
+use Rattle.plain_calls.specs.Asks.{askedOf}
+use Rattle.unique_index_set.specs.Starts.{startJudged, startedFrom, startOf}
 use Rattle.unique_index_set.specs.Setups.{setFresh, setupJudged, setupOf}
 use Rattle.unique_index_set.specs.Drains.{again, drainOf, runLeaves}
 use Rattle.unique_index_set.proofs.Accepted.{release-in}

@@ -17,11 +17,12 @@ use Rattle.custody.specs.declared.Custody.the-variants.{Free, Granting, Held}
 use Rattle.plain_places.specs.declared.Place.{Place}
 use Rattle.plain_places.specs.declared.Place.the-variants.{AcquireLook, AcquireRead, AcquireExchange, AcquireWrite, ReleaseLook, ReleaseWrite, ReleaseExchange, BorrowedLook, LockedLook}
 use Rattle.plain_places.specs.Places.{mayAcquire, mayRelease, sound}
-use Rattle.unique_index_set.specs.declared.moves.Saw.{Saw}
-use Rattle.unique_index_set.specs.declared.marks.Mark.{Mark}
-use Rattle.unique_index_set.specs.declared.marks.Mark.the-variants.{Nothing, As}
-use Rattle.unique_index_set.specs.Moves.{accessAt, within}
-use Rattle.unique_index_set.specs.Custodies.{releaseMark, markAt, markWithin}
+use Rattle.plain_calls.specs.declared.resumes.Saw.{Saw}
+use Rattle.plain_calls.specs.declared.marks.Mark.{Mark}
+use Rattle.plain_calls.specs.declared.marks.Mark.the-variants.{Nothing, As}
+use Rattle.unique_index_set.specs.Accesses.{accessAt, within}
+use Rattle.plain_calls.specs.Marks.{releaseMark, markAt}
+use Rattle.unique_index_set.specs.Custodies.{markWithin}
 
 pub may-acquire-head : (capacity w : ℕ) → mayAcquire capacity w ≡ true → headOf w < capacity
 unfolding mayAcquire

@@ -27,16 +27,17 @@ use Rattle.plain_places.specs.declared.Opened.{Opened}
 use Rattle.plain_places.specs.declared.Opened.the-variants.{At, Damaged}
 use Rattle.plain_places.specs.Places.{mayAcquire, mayRelease, sound, openedAt, closedAt}
 use Rattle.plain_places.proofs.Laws.{opened-closed, opened-sound}
-use Rattle.unique_index_set.specs.declared.moves.Access.{Access}
-use Rattle.unique_index_set.specs.declared.moves.Access.the-variants.{Look, Exchange, Read, Write}
-use Rattle.unique_index_set.specs.declared.moves.Next.{Next}
-use Rattle.unique_index_set.specs.declared.moves.Next.the-variants.{Going, Answered}
-use Rattle.unique_index_set.specs.declared.marks.Mark.{Mark}
-use Rattle.unique_index_set.specs.declared.marks.Mark.the-variants.{Nothing, As}
-use Rattle.unique_index_set.specs.Moves.{accessAt, wordAfter, slotsAfter, acquireLooked, releaseLooked}
+use Rattle.unique_index_set.specs.declared.accesses.Access.{Access}
+use Rattle.unique_index_set.specs.declared.accesses.Access.the-variants.{Look, Exchange, Read, Write}
+use Rattle.plain_calls.specs.declared.resumes.Next.{Next}
+use Rattle.plain_calls.specs.declared.resumes.Next.the-variants.{Going, Answered}
+use Rattle.plain_calls.specs.declared.marks.Mark.{Mark}
+use Rattle.plain_calls.specs.declared.marks.Mark.the-variants.{Nothing, As}
+use Rattle.unique_index_set.specs.Accesses.{accessAt, wordAfter, slotsAfter}
+use Rattle.plain_calls.specs.Resumes.{acquireLooked, releaseLooked}
 use Rattle.unique_index_set.specs.Custodies.{marked}
 use Rattle.unique_index_set.specs.Steps.{Shared, nextAt, sharedAfter, advanced, tooShort, isDamaged, stepTests, stepVerdict, openedIn, stepJudged, stepOf}
-use Rattle.unique_index_set.specs.declared.starts.Asked.{Asked}
+use Rattle.plain_calls.specs.declared.asks.Asked.{Asked}
 use Rattle.unique_index_set.specs.Starts.{startTests, startVerdict, startJudged}
 use Rattle.unique_index_set.proofs.Sound.{may-acquire-head}
 

@@ -1,37 +1,15 @@
--- What a step marks in the custody buffer, whatever stood there: a won exchange marks its index being granted or free, the write
--- that answers an acquire marks it held, and a release that ends with 14 has its index held again.
+-- The custody buffer: a mark put, and who holds an index.
 use Prim.Native.Nat.{ℕ}
 use mathlib.Core.Bool.{Bool, true, false, cond}
 use mathlib.Core.List.{List}
 use lib.ListN.{length, getD, set}
-use lib.Dec.{ltb, leb, eqb}
+use lib.Dec.{ltb}
 use Rattle.unique_index_set_enums.specs.declared.Index.{Index}
 use Rattle.unique_index_set_enums.specs.declared.RecordNumber.{RecordNumber}
-use Rattle.unique_index_set_enums.specs.Kinds.{index}
-use Rattle.head_details.specs.Word.{headOf}
-use Rattle.custody.specs.declared.Custody.{Custody}
-use Rattle.custody.specs.declared.Custody.the-variants.{Free, Granting, Held, Giving, Unknown}
 use Rattle.custody.specs.Entry.{entryOf, custodyOf}
-use Rattle.plain_places.specs.declared.Place.{Place}
-use Rattle.plain_places.specs.declared.Place.the-variants.{AcquireLook, AcquireRead, AcquireExchange, AcquireWrite, ReleaseLook, ReleaseWrite, ReleaseExchange, BorrowedLook, LockedLook}
-use Rattle.plain_places.specs.Places.{mayRelease}
-use Rattle.unique_index_set.specs.declared.moves.Saw.{Saw}
-use Rattle.unique_index_set.specs.declared.marks.Mark.{Mark}
-use Rattle.unique_index_set.specs.declared.marks.Mark.the-variants.{Nothing, As}
-
-unfoldable pub releaseMark : RecordNumber → Index → ℕ → Mark
-releaseMark who i w = cond (mayRelease w) Nothing (As i (Held who))
-
-abbrev pub markAt : RecordNumber → Place → Saw → Mark
-markAt who AcquireLook saw = Nothing
-markAt who (AcquireRead seen) saw = Nothing
-markAt who (AcquireExchange seen value) saw = cond (saw .won) (As (index (headOf seen)) (Granting who)) Nothing
-markAt who (AcquireWrite i) saw = As i (Held who)
-markAt who (ReleaseLook i m) saw = releaseMark who i (saw .word)
-markAt who (ReleaseWrite i m seen) saw = Nothing
-markAt who (ReleaseExchange i m seen) saw = cond (saw .won) (As i Free) (releaseMark who i (saw .word))
-markAt who BorrowedLook saw = Nothing
-markAt who LockedLook saw = Nothing
+use Rattle.plain_calls.specs.declared.marks.Mark.{Mark}
+use Rattle.plain_calls.specs.declared.marks.Mark.the-variants.{Nothing, As}
+use Rattle.plain_calls.specs.Marks.{heldBy}
 
 -- the mark is within n entries (asked of `put_mark`; a sound place's always is)
 abbrev pub markWithin : ℕ → Mark → Bool
@@ -41,14 +19,6 @@ markWithin n (As i c) = ltb (i .0) n
 abbrev pub marked : Mark → List ℕ → List ℕ
 marked Nothing custody = custody
 marked (As i c) custody = set custody (i .0) (entryOf c)
-
--- held by this record: an unknown entry is not
-abbrev pub heldBy : RecordNumber → Custody → Bool
-heldBy who Free = false
-heldBy who (Granting r) = false
-heldBy who (Held r) = eqb (r .0) (who .0)
-heldBy who (Giving holder giver) = false
-heldBy who Unknown = false
 
 -- the index is in the buffer, and held by this record
 unfoldable pub holds : RecordNumber → Index → List ℕ → Bool

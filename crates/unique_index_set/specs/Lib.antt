@@ -1,4 +1,4 @@
-pub mod Moves
+pub mod Accesses
 pub mod Custodies
 pub mod Steps
 pub mod Starts

@@ -6,76 +6,27 @@ use mathlib.Core.List.{List}
 use lib.ListN.{length}
 use lib.Dec.{ltb, leb, eqb}
 use Rattle.unique_index_set_enums.specs.declared.RecordNumber.{RecordNumber}
-use Rattle.unique_index_set_enums.specs.declared.ModeRead.{ModeRead}
-use Rattle.unique_index_set_enums.specs.declared.ModeRead.the-variants as mode
-use Rattle.unique_index_set_enums.specs.Kinds.{index}
 use Rattle.unique_index_set_enums.specs.Limits.{plainCapacityLimit}
-use Rattle.unique_index_set_enums.specs.Numbers.{modeRead}
-use Rattle.calls.specs.declared.Call.{Call}
-use Rattle.calls.specs.declared.Call.the-variants as call
-use Rattle.calls.specs.declared.CallRead.{CallRead}
-use Rattle.calls.specs.declared.CallRead.the-variants.{Known, Unknown}
 use Rattle.calls.specs.declared.Request.{Request}
 use Rattle.calls.specs.declared.Refusal.the-variants as refusal
 use Rattle.calls.specs.declared.Tests.{Tests}
 use Rattle.calls.specs.declared.Verdict.{Verdict}
-use Rattle.calls.specs.Numbers.{callRead}
 use Rattle.calls.specs.Order.{verdictOf}
 use Rattle.calls.specs.Reports.{acceptedReport}
 use Rattle.thread_records.specs.declared.Record.{Record}
 use Rattle.thread_records.specs.Records.{liveRecord, notIdle}
 use Rattle.thread_records.specs.Effects.{Effect, judged}
-use Rattle.custody.specs.declared.Custody.the-variants.{Giving}
 use Rattle.plain_places.specs.declared.Place.{Place}
 use Rattle.plain_places.specs.declared.Place.the-variants.{AcquireLook, ReleaseLook, BorrowedLook, LockedLook}
 use Rattle.plain_places.specs.Places.{closedAt}
 use Rattle.unique_index_set.specs.declared.UniqueIndexSet.{UniqueIndexSet}
 use Rattle.unique_index_set.specs.declared.steps.Stepped.{Stepped}
-use Rattle.unique_index_set.specs.declared.starts.Asked.{Asked}
-use Rattle.unique_index_set.specs.declared.starts.Asked.the-variants.{Acquire, Release, BorrowedIndices, IsLocked, NotKnown}
-use Rattle.unique_index_set.specs.declared.marks.Mark.{Mark}
-use Rattle.unique_index_set.specs.declared.marks.Mark.the-variants.{Nothing, As}
+use Rattle.plain_calls.specs.declared.asks.Asked.{Asked}
+use Rattle.plain_calls.specs.declared.asks.Asked.the-variants.{Acquire, Release, BorrowedIndices, IsLocked, NotKnown}
+use Rattle.plain_calls.specs.Asks.{askedOf, isNotKnown, isOutOfRange}
+use Rattle.plain_calls.specs.Marks.{startMark}
 use Rattle.unique_index_set.specs.Custodies.{marked, holds}
 use Rattle.unique_index_set.specs.Steps.{Shared, leaves, turnedAway, tooShort}
-
--- what a request asks of a plain set: find, recover, an unknown call, and a release in an unknown mode are not known
-abbrev pub releaseIn : ModeRead → Request → Asked
-releaseIn (mode.Known m) request = Release (index (request .«index_or_room»)) m
-releaseIn mode.Unknown request = NotKnown
-
-unfoldable pub askedRelease : Request → Asked
-askedRelease request = releaseIn (modeRead (request .mode)) request
-
-abbrev pub askedCall : Call → Request → Asked
-askedCall call.Acquire request = Acquire
-askedCall call.Release request = askedRelease request
-askedCall call.BorrowedIndices request = BorrowedIndices
-askedCall call.IsLocked request = IsLocked
-askedCall call.Find request = NotKnown
-askedCall call.Recover request = NotKnown
-
-abbrev pub askedRead : CallRead → Request → Asked
-askedRead (Known c) request = askedCall c request
-askedRead Unknown request = NotKnown
-
-unfoldable pub askedOf : Request → Asked
-askedOf request = askedRead (callRead (request .call)) request
-
--- refusal 13
-abbrev pub isNotKnown : Asked → Bool
-isNotKnown Acquire = false
-isNotKnown (Release i m) = false
-isNotKnown BorrowedIndices = false
-isNotKnown IsLocked = false
-isNotKnown NotKnown = true
-
--- refusal 7
-abbrev pub isOutOfRange : ℕ → Asked → Bool
-isOutOfRange capacity Acquire = false
-isOutOfRange capacity (Release i m) = leb capacity (i .0)
-isOutOfRange capacity BorrowedIndices = false
-isOutOfRange capacity IsLocked = false
-isOutOfRange capacity NotKnown = false
 
 -- refusal 8
 abbrev pub isNotHeld : RecordNumber → Asked → List ℕ → Bool
@@ -105,14 +56,6 @@ startVerdict records who capacity slots custody asked t = verdictOf (startTests 
 
 abbrev pub startJudged : ℕ → RecordNumber → Asked → Shared → Record → Verdict
 startJudged records who asked s t = startVerdict records who (s .set .capacity) (length (s .slots)) (s .custody) asked t
-
--- a release's start marks its index as being given back, by its holder; no other start marks anything
-abbrev pub startMark : RecordNumber → Asked → Mark
-startMark who Acquire = Nothing
-startMark who (Release i m) = As i (Giving who who)
-startMark who BorrowedIndices = Nothing
-startMark who IsLocked = Nothing
-startMark who NotKnown = Nothing
 
 -- the call enters at its first place
 abbrev pub enteredAt : Place → UniqueIndexSet → Record → Stepped

@@ -22,12 +22,14 @@ use Rattle.plain_places.specs.declared.Opened.{Opened}
 use Rattle.plain_places.specs.declared.Opened.the-variants.{At, Damaged}
 use Rattle.plain_places.specs.Places.{openedAt, closedAt}
 use Rattle.unique_index_set.specs.declared.UniqueIndexSet.{UniqueIndexSet}
-use Rattle.unique_index_set.specs.declared.moves.Saw.{Saw}
-use Rattle.unique_index_set.specs.declared.moves.Next.{Next}
-use Rattle.unique_index_set.specs.declared.moves.Next.the-variants.{Going, Answered}
+use Rattle.plain_calls.specs.declared.resumes.Saw.{Saw}
+use Rattle.plain_calls.specs.declared.resumes.Next.{Next}
+use Rattle.plain_calls.specs.declared.resumes.Next.the-variants.{Going, Answered}
 use Rattle.unique_index_set.specs.declared.steps.Stepped.{Stepped}
-use Rattle.unique_index_set.specs.Moves.{accessAt, sawOf, wordAfter, slotsAfter, resumedAt}
-use Rattle.unique_index_set.specs.Custodies.{markAt, marked}
+use Rattle.plain_calls.specs.Resumes.{resumedAt}
+use Rattle.plain_calls.specs.Marks.{markAt}
+use Rattle.unique_index_set.specs.Accesses.{accessAt, sawOf, wordAfter, slotsAfter}
+use Rattle.unique_index_set.specs.Custodies.{marked}
 
 -- what the records of a plain set share
 pub record Shared : Type 0 where

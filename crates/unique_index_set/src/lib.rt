@@ -1,7 +1,7 @@
 // The plain set, UniqueIndexSet, moved one shared access at a time by one thread record by value.
+mod accesses;
+mod custodies;
 mod drains;
-mod marks;
-mod moves;
 mod setups;
 mod starts;
 mod steps;

@@ -1,103 +1,30 @@
 // The start of a call: it enters the call and touches no shared word.
 use crate::UniqueIndexSet;
-use crate::marks::Mark;
-use crate::marks::is_holding;
-use crate::marks::put_mark;
+use crate::custodies::is_holding;
+use crate::custodies::put_mark;
 use crate::steps::Stepped;
 use crate::steps::is_too_short;
 use crate::steps::turned_away;
-use calls::Call;
-use calls::CallRead;
 use calls::Refusal;
 use calls::Report;
 use calls::Request;
 use calls::Tests;
 use calls::Verdict;
-use calls::read_call;
-use custody::Custody;
+use plain_calls::Asked;
+use plain_calls::asked_of;
+use plain_calls::is_not_known;
+use plain_calls::is_out_of_range;
+use plain_calls::start_mark;
 use plain_places::Place;
 use plain_places::close;
 use thread_records::Record;
 use thread_records::is_not_idle;
 use thread_records::live_record;
-use unique_index_set_enums::Index;
-use unique_index_set_enums::ModeRead;
 use unique_index_set_enums::PLAIN_CAPACITY_LIMIT;
 use unique_index_set_enums::RecordNumber;
-use unique_index_set_enums::ReleaseMode;
-use unique_index_set_enums::read_mode;
 ghost use mathlib.Core.Path.{_≡_};
-ghost use mathlib.Core.Bool.{true};
-ghost use lib.ListN.{length};
-ghost use Rattle.unique_index_set.specs.Custodies.{markWithin};
 ghost use Rattle.unique_index_set.specs.Steps.{shared, leaves};
-ghost use Rattle.unique_index_set.specs.Starts.{askedRelease, askedCall, askedOf, isNotKnown, isOutOfRange, isNotHeld, startVerdict, startMark, enteredAt, enteredFor, startOf};
-
-// What a request asks of a plain set.
-pub enum Asked {
-    Acquire,
-    Release(Index, ReleaseMode),
-    BorrowedIndices,
-    IsLocked,
-    NotKnown,
-}
-
-fn asked_release(request: Request) -> Asked
-    ensures { λ r. ⌜ r ≡ askedRelease request ⌝ }
-{
-    let mode = read_mode(request.mode);
-    match mode {
-        ModeRead::Known(m) => Asked::Release(Index(request.index_or_room), m),
-        ModeRead::Unknown => Asked::NotKnown,
-    }
-}
-
-fn asked_call(call: Call, request: Request) -> Asked
-    ensures { λ r. ⌜ r ≡ askedCall call request ⌝ }
-{
-    match call {
-        Call::Acquire => Asked::Acquire,
-        Call::Release => asked_release(request),
-        Call::BorrowedIndices => Asked::BorrowedIndices,
-        Call::IsLocked => Asked::IsLocked,
-        Call::Find => Asked::NotKnown,
-        Call::Recover => Asked::NotKnown,
-    }
-}
-
-fn asked_of(request: Request) -> Asked
-    ensures { λ r. ⌜ r ≡ askedOf request ⌝ }
-{
-    let read = read_call(request.call);
-    match read {
-        CallRead::Known(call) => asked_call(call, request),
-        CallRead::Unknown => Asked::NotKnown,
-    }
-}
-
-fn is_not_known(asked: Asked) -> bool
-    ensures { λ r. ⌜ r ≡ isNotKnown asked ⌝ }
-{
-    match asked {
-        Asked::Acquire => false,
-        Asked::Release(_, _) => false,
-        Asked::BorrowedIndices => false,
-        Asked::IsLocked => false,
-        Asked::NotKnown => true,
-    }
-}
-
-fn is_out_of_range(capacity: u32, asked: Asked) -> bool
-    ensures { λ r. ⌜ r ≡ isOutOfRange capacity asked ⌝ }
-{
-    match asked {
-        Asked::Acquire => false,
-        Asked::Release(index, _) => index.0 >= capacity,
-        Asked::BorrowedIndices => false,
-        Asked::IsLocked => false,
-        Asked::NotKnown => false,
-    }
-}
+ghost use Rattle.unique_index_set.specs.Starts.{isNotHeld, startVerdict, enteredAt, enteredFor, startOf};
 
 fn is_not_held(who: RecordNumber, asked: Asked, custody: &[u32]) -> bool
     ensures { λ r. ⌜ r ≡ isNotHeld who asked (now (custody .entry)) ⌝ }
@@ -134,19 +61,6 @@ fn start_verdict(
         index_out_of_range: is_out_of_range(capacity, asked),
         index_not_held: is_not_held(who, asked, custody),
     }.verdict()
-}
-
-// A release's start marks its index as being given back, by its holder.
-fn start_mark(who: RecordNumber, asked: Asked) -> Mark
-    ensures { λ r. ⌜ r ≡ startMark who asked ⌝ }
-{
-    match asked {
-        Asked::Acquire => Mark::Nothing,
-        Asked::Release(index, _) => Mark::As(index, Custody::Giving(who, who)),
-        Asked::BorrowedIndices => Mark::Nothing,
-        Asked::IsLocked => Mark::Nothing,
-        Asked::NotKnown => Mark::Nothing,
-    }
 }
 
 // The call entered at a place.

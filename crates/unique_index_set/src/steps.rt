@@ -1,11 +1,11 @@
 // A step: check, access, perform, mark, resume.
 use crate::UniqueIndexSet;
-use crate::marks::mark_at;
-use crate::marks::put_mark;
-use crate::moves::Next;
-use crate::moves::access_at;
-use crate::moves::perform;
-use crate::moves::resume;
+use crate::accesses::access_at;
+use crate::accesses::perform;
+use crate::custodies::put_mark;
+use plain_calls::Next;
+use plain_calls::mark_at;
+use plain_calls::resume;
 use calls::Refusal;
 use calls::Report;
 use calls::Tests;
