@@ -2,14 +2,14 @@
 use Prim.Native.Nat.{ℕ}
 use mathlib.Core.Bool.{Bool, true, false, cond, not}
 use lib.Dec.{ltb, eqb}
-use Rattle.unique_index_set_enums.specs.declared.Index.{Index}
 use Rattle.unique_index_set_enums.specs.declared.ModeRead.{ModeRead}
 use Rattle.unique_index_set_enums.specs.declared.ModeRead.the-variants as mode
-use Rattle.unique_index_set_enums.specs.Kinds.{index, owner, generation}
+use Rattle.unique_index_set_enums.specs.Kinds.{index}
 use Rattle.unique_index_set_enums.specs.Limits.{lockAcquire}
 use Rattle.unique_index_set_enums.specs.Numbers.{modeNumber, modeRead}
 use Rattle.head_details.specs.Word.{headOf, borrowedOf}
 use Rattle.thread_records.specs.declared.Remembered.{Remembered}
+use Rattle.thread_records.specs.Records.{plainCall}
 use Rattle.plain_places.specs.declared.Place.{Place}
 use Rattle.plain_places.specs.declared.Place.the-variants.{AcquireLook, AcquireRead, AcquireExchange, AcquireWrite, ReleaseLook, ReleaseWrite, ReleaseExchange, BorrowedLook, LockedLook}
 use Rattle.plain_places.specs.declared.PlaceRead.{PlaceRead}
@@ -65,31 +65,14 @@ openedFrom capacity (Known p) = cond (sound capacity p) (At p) Damaged
 unfoldable pub openedAt : ℕ → Remembered → Opened
 openedAt capacity c = openedFrom capacity (placeRead c)
 
--- a plain call's place number, mode, index, word seen and value read; all else 0
-abbrev pub remembered : ℕ → ℕ → Index → ℕ → ℕ → Remembered
-remembered place m i seen value = record {
-  place = place;
-  mode = m;
-  index = i;
-  seen = seen;
-  value = value;
-  owner = owner 0;
-  generation = generation 0;
-  «bump_generation» = generation 0;
-  «count_generation» = generation 0;
-  «count_cell» = index 0;
-  counted = 0;
-  reported = 0;
-  room = 0;
-}
-
+-- closed: what the place remembers, and 0 for all else
 abbrev pub closedAt : Place → Remembered
-closedAt AcquireLook = remembered 1 0 (index 0) 0 0
-closedAt (AcquireRead seen) = remembered 2 0 (index 0) seen 0
-closedAt (AcquireExchange seen value) = remembered 3 0 (index 0) seen value
-closedAt (AcquireWrite i) = remembered 4 0 i 0 0
-closedAt (ReleaseLook i m) = remembered 5 (modeNumber m) i 0 0
-closedAt (ReleaseWrite i m seen) = remembered 6 (modeNumber m) i seen 0
-closedAt (ReleaseExchange i m seen) = remembered 7 (modeNumber m) i seen 0
-closedAt BorrowedLook = remembered 8 0 (index 0) 0 0
-closedAt LockedLook = remembered 9 0 (index 0) 0 0
+closedAt AcquireLook = plainCall 1 0 (index 0) 0 0
+closedAt (AcquireRead seen) = plainCall 2 0 (index 0) seen 0
+closedAt (AcquireExchange seen value) = plainCall 3 0 (index 0) seen value
+closedAt (AcquireWrite i) = plainCall 4 0 i 0 0
+closedAt (ReleaseLook i m) = plainCall 5 (modeNumber m) i 0 0
+closedAt (ReleaseWrite i m seen) = plainCall 6 (modeNumber m) i seen 0
+closedAt (ReleaseExchange i m seen) = plainCall 7 (modeNumber m) i seen 0
+closedAt BorrowedLook = plainCall 8 0 (index 0) 0 0
+closedAt LockedLook = plainCall 9 0 (index 0) 0 0

@@ -1,15 +1,14 @@
 // The places of the plain set's calls, opened from a lent record and closed into one.
 use head_details::HeadDetails;
 use thread_records::Remembered;
-use unique_index_set_enums::Generation;
+use thread_records::plain_call;
 use unique_index_set_enums::Index;
 use unique_index_set_enums::LOCK_ACQUIRE;
 use unique_index_set_enums::ModeRead;
-use unique_index_set_enums::OwnerId;
 use unique_index_set_enums::ReleaseMode;
 use unique_index_set_enums::read_mode;
 ghost use mathlib.Core.Path.{_≡_};
-ghost use Rattle.plain_places.specs.Places.{mayAcquire, mayRelease, sound, releaseRead, placeRead, openedFrom, openedAt, remembered, closedAt};
+ghost use Rattle.plain_places.specs.Places.{mayAcquire, mayRelease, sound, releaseRead, placeRead, openedFrom, openedAt, closedAt};
 
 // Where a call stands, before the one shared access that it makes next, with what it can still read: the head word
 // that it saw, the slot's value that it read, the index that it won or gives back, the mode.
@@ -149,39 +148,19 @@ pub fn open(capacity: u32, call: Remembered) -> Opened
     }
 }
 
-fn remember(place: u8, mode: u8, index: Index, seen: u64, value: u32) -> Remembered
-    ensures { λ r. ⌜ r ≡ remembered place mode index seen value ⌝ }
-{
-    Remembered {
-        place: place,
-        mode: mode,
-        index: index,
-        seen: seen,
-        value: value,
-        owner: OwnerId(0),
-        generation: Generation(0),
-        bump_generation: Generation(0),
-        count_generation: Generation(0),
-        count_cell: Index(0),
-        counted: 0,
-        reported: 0,
-        room: 0,
-    }
-}
-
 // The place closed: what it remembers, and 0 for all else.
 pub fn close(place: Place) -> Remembered
     ensures { λ r. ⌜ r ≡ closedAt place ⌝ }
 {
     match place {
-        Place::AcquireLook => remember(1, 0, Index(0), 0, 0),
-        Place::AcquireRead(seen) => remember(2, 0, Index(0), seen, 0),
-        Place::AcquireExchange(seen, value) => remember(3, 0, Index(0), seen, value),
-        Place::AcquireWrite(index) => remember(4, 0, index, 0, 0),
-        Place::ReleaseLook(index, mode) => remember(5, mode.number(), index, 0, 0),
-        Place::ReleaseWrite(index, mode, seen) => remember(6, mode.number(), index, seen, 0),
-        Place::ReleaseExchange(index, mode, seen) => remember(7, mode.number(), index, seen, 0),
-        Place::BorrowedLook => remember(8, 0, Index(0), 0, 0),
-        Place::LockedLook => remember(9, 0, Index(0), 0, 0),
+        Place::AcquireLook => plain_call(1, 0, Index(0), 0, 0),
+        Place::AcquireRead(seen) => plain_call(2, 0, Index(0), seen, 0),
+        Place::AcquireExchange(seen, value) => plain_call(3, 0, Index(0), seen, value),
+        Place::AcquireWrite(index) => plain_call(4, 0, index, 0, 0),
+        Place::ReleaseLook(index, mode) => plain_call(5, mode.number(), index, 0, 0),
+        Place::ReleaseWrite(index, mode, seen) => plain_call(6, mode.number(), index, seen, 0),
+        Place::ReleaseExchange(index, mode, seen) => plain_call(7, mode.number(), index, seen, 0),
+        Place::BorrowedLook => plain_call(8, 0, Index(0), 0, 0),
+        Place::LockedLook => plain_call(9, 0, Index(0), 0, 0),
     }
 }

@@ -3,6 +3,7 @@ use Prim.Native.Nat.{ℕ}
 use mathlib.Core.Bool.{Bool, true, false, cond, not}
 use mathlib.Core.List.{List, [], _∷_}
 use lib.Dec.{leb, eqb}
+use Rattle.unique_index_set_enums.specs.declared.Index.{Index}
 use Rattle.unique_index_set_enums.specs.declared.RecordNumber.{RecordNumber}
 use Rattle.unique_index_set_enums.specs.Kinds.{index, owner, generation}
 use Rattle.thread_records.specs.declared.OwnerList.{OwnerList}
@@ -16,13 +17,14 @@ emptyList = record {
   owners = owner 0 ∷ owner 0 ∷ owner 0 ∷ owner 0 ∷ owner 0 ∷ owner 0 ∷ owner 0 ∷ owner 0 ∷ [];
 }
 
-abbrev pub idleCall : Remembered
-idleCall = record {
-  place = 0;
-  mode = 0;
-  index = index 0;
-  seen = 0;
-  value = 0;
+-- what a plain call remembers: its place's number, mode, index, word seen and value read; all else 0
+abbrev pub plainCall : ℕ → ℕ → Index → ℕ → ℕ → Remembered
+plainCall place mode i seen value = record {
+  place = place;
+  mode = mode;
+  index = i;
+  seen = seen;
+  value = value;
   owner = owner 0;
   generation = generation 0;
   «bump_generation» = generation 0;
@@ -32,6 +34,10 @@ idleCall = record {
   reported = 0;
   room = 0;
 }
+
+-- no call: all 0
+abbrev pub idleCall : Remembered
+idleCall = plainCall 0 0 (index 0) 0 0
 
 -- a live record, its list beside its call
 abbrev pub liveRecord : Remembered → OwnerList → Record

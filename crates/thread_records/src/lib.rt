@@ -9,7 +9,7 @@ use unique_index_set_enums::OwnerId;
 use unique_index_set_enums::RECORDS_LIMIT;
 use unique_index_set_enums::RecordNumber;
 ghost use mathlib.Core.Path.{_≡_};
-ghost use Rattle.thread_records.specs.Records.{emptyList, idleCall, liveRecord, idleRecord, notAlive, notIdle, notCalling};
+ghost use Rattle.thread_records.specs.Records.{emptyList, plainCall, idleCall, liveRecord, idleRecord, notAlive, notIdle, notCalling};
 ghost use Rattle.thread_records.specs.Deaths.{deathTests, deathOf};
 
 // The owners that a recover goes by. Those from `count` on say nothing.
@@ -51,15 +51,16 @@ pub fn empty_list() -> OwnerList
     }
 }
 
-pub fn idle_call() -> Remembered
-    ensures { λ r. ⌜ r ≡ idleCall ⌝ }
+// What a plain call remembers, and 0 for all else.
+pub fn plain_call(place: u8, mode: u8, index: Index, seen: u64, value: u32) -> Remembered
+    ensures { λ r. ⌜ r ≡ plainCall place mode index seen value ⌝ }
 {
     Remembered {
-        place: 0,
-        mode: 0,
-        index: Index(0),
-        seen: 0,
-        value: 0,
+        place: place,
+        mode: mode,
+        index: index,
+        seen: seen,
+        value: value,
         owner: OwnerId(0),
         generation: Generation(0),
         bump_generation: Generation(0),
@@ -69,6 +70,12 @@ pub fn idle_call() -> Remembered
         reported: 0,
         room: 0,
     }
+}
+
+pub fn idle_call() -> Remembered
+    ensures { λ r. ⌜ r ≡ idleCall ⌝ }
+{
+    plain_call(0, 0, Index(0), 0, 0)
 }
 
 // A live record, its list beside its call.
