@@ -7,6 +7,7 @@ use Rattle.unique_index_set_enums.specs.declared.Index.{Index}
 use Rattle.unique_index_set_enums.specs.declared.RecordNumber.{RecordNumber}
 use Rattle.unique_index_set_enums.specs.Kinds.{index, owner, generation}
 use Rattle.thread_records.specs.declared.OwnerList.{OwnerList}
+use Rattle.thread_records.specs.declared.Counting.{Counting}
 use Rattle.thread_records.specs.declared.Remembered.{Remembered}
 use Rattle.thread_records.specs.declared.Record.{Record}
 
@@ -16,6 +17,9 @@ emptyList = record {
   count = 0;
   owners = owner 0 ∷ owner 0 ∷ owner 0 ∷ owner 0 ∷ owner 0 ∷ owner 0 ∷ owner 0 ∷ owner 0 ∷ [];
 }
+
+abbrev pub noCounting : Counting
+noCounting = record { generation = generation 0; cell = index 0; counted = 0; bump = generation 0 }
 
 -- what a plain call remembers: its place's number, mode, index, word seen and value read; all else 0
 abbrev pub plainCall : ℕ → ℕ → Index → ℕ → ℕ → Remembered
@@ -27,12 +31,9 @@ plainCall place mode i seen value = record {
   value = value;
   owner = owner 0;
   generation = generation 0;
-  «bump_generation» = generation 0;
-  «count_generation» = generation 0;
-  «count_cell» = index 0;
-  counted = 0;
   reported = 0;
   room = 0;
+  counting = noCounting;
 }
 
 -- no call: all 0

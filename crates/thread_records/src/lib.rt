@@ -9,13 +9,21 @@ use unique_index_set_enums::OwnerId;
 use unique_index_set_enums::RECORDS_LIMIT;
 use unique_index_set_enums::RecordNumber;
 ghost use mathlib.Core.Path.{_≡_};
-ghost use Rattle.thread_records.specs.Records.{emptyList, plainCall, idleCall, liveRecord, idleRecord, notAlive, notIdle, notCalling};
+ghost use Rattle.thread_records.specs.Records.{emptyList, noCounting, plainCall, idleCall, liveRecord, idleRecord, notAlive, notIdle, notCalling};
 ghost use Rattle.thread_records.specs.Deaths.{deathTests, deathOf};
 
 // The owners that a recover goes by. Those from `count` on say nothing.
 pub struct OwnerList {
     pub count: u8,
     pub owners: [OwnerId; 8],
+}
+
+// What a count and its bump remember.
+pub struct Counting {
+    pub generation: Generation,
+    pub cell: Index,
+    pub counted: u32,
+    pub bump: Generation,
 }
 
 // Where a record's call stands and what it remembers. Place 0 is no call, 1 to 9 are the plain set's, 16 and above the
@@ -28,12 +36,9 @@ pub struct Remembered {
     pub value: u32,
     pub owner: OwnerId,
     pub generation: Generation,
-    pub bump_generation: Generation,
-    pub count_generation: Generation,
-    pub count_cell: Index,
-    pub counted: u32,
     pub reported: u32,
     pub room: u32,
+    pub counting: Counting,
 }
 
 pub struct Record {
@@ -51,6 +56,17 @@ pub fn empty_list() -> OwnerList
     }
 }
 
+pub fn no_counting() -> Counting
+    ensures { λ r. ⌜ r ≡ noCounting ⌝ }
+{
+    Counting {
+        generation: Generation(0),
+        cell: Index(0),
+        counted: 0,
+        bump: Generation(0),
+    }
+}
+
 // What a plain call remembers, and 0 for all else.
 pub fn plain_call(place: u8, mode: u8, index: Index, seen: u64, value: u32) -> Remembered
     ensures { λ r. ⌜ r ≡ plainCall place mode index seen value ⌝ }
@@ -63,12 +79,9 @@ pub fn plain_call(place: u8, mode: u8, index: Index, seen: u64, value: u32) -> R
         value: value,
         owner: OwnerId(0),
         generation: Generation(0),
-        bump_generation: Generation(0),
-        count_generation: Generation(0),
-        count_cell: Index(0),
-        counted: 0,
         reported: 0,
         room: 0,
+        counting: no_counting(),
     }
 }
 
