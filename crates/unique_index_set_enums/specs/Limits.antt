@@ -15,6 +15,10 @@ recordsLimit = 16
 abbrev pub ownersLimit : ℕ
 ownersLimit = 8
 
+-- u64::MAX: a cell that has no owner, and the generation that marks a locked robust set (robust_unique_index_set.rs 136, 145)
+abbrev pub u64Max : ℕ
+u64Max = 0xffff_ffff_ffff_ffff
+
 -- the trace program's own limit on the capacity of either set
 abbrev pub traceCapacityLimit : ℕ
 traceCapacityLimit = 1_024

@@ -1,5 +1,6 @@
 // The enums of unique_index_set_enums.rs, the kinds, and every limit of the scope.
 ghost use mathlib.Core.Path.{_≡_};
+ghost use Rattle.unique_index_set_enums.specs.Robust.{ownerRead, isEmpty, isLockedAt, nextGeneration};
 ghost use Rattle.unique_index_set_enums.specs.Numbers.{modeRead, modeNumber, stateValue, acquireFailureNumber, creationErrorNumber};
 
 // Four kinds of code, and a record's number as the fifth: mixing two does not compile.
@@ -28,6 +29,9 @@ pub const TRACE_CAPACITY_LIMIT: u32 = 1_024;
 
 // The borrowed count that marks a locked plain set.
 pub const LOCK_ACQUIRE: u32 = 0x00ff_ffff;
+
+// The generation that marks a locked robust set.
+pub const GENERATION_COUNTER_LOCK_INDICATOR: u64 = 0xffff_ffff_ffff_ffff;
 
 // Whether a release that returns the last index locks the set.
 pub enum ReleaseMode {
@@ -66,6 +70,50 @@ pub fn read_mode(mode: u8) -> ModeRead
         return ModeRead::Known(ReleaseMode::LockIfLastIndex);
     }
     ModeRead::Unknown
+}
+
+// A number read as an owner.
+pub enum OwnerIdRead {
+    Known(OwnerId),
+    InvalidOwnerValue,
+}
+
+impl OwnerId {
+    // What a cell holds that has no owner.
+    pub const EMPTY: OwnerId = OwnerId(0xffff_ffff_ffff_ffff);
+
+    pub fn new(value: u64) -> OwnerIdRead
+        ensures { λ r. ⌜ r ≡ ownerRead value ⌝ }
+    {
+        if value == Self::EMPTY.0 {
+            return OwnerIdRead::InvalidOwnerValue;
+        }
+        OwnerIdRead::Known(OwnerId(value))
+    }
+
+    pub fn is_empty(self) -> bool
+        ensures { λ r. ⌜ r ≡ isEmpty self ⌝ }
+    {
+        self.0 == Self::EMPTY.0
+    }
+}
+
+impl Generation {
+    pub fn is_locked(self) -> bool
+        ensures { λ r. ⌜ r ≡ isLockedAt self ⌝ }
+    {
+        self.0 == GENERATION_COUNTER_LOCK_INDICATOR
+    }
+
+    // One more. The lock mark never changes.
+    pub fn next(self) -> Generation
+        ensures { λ r. ⌜ r ≡ nextGeneration self ⌝ }
+    {
+        if self.0 == GENERATION_COUNTER_LOCK_INDICATOR {
+            return self;
+        }
+        Generation(self.0 + 1)
+    }
 }
 
 impl ReleaseMode {

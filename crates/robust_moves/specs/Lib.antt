@@ -1,0 +1,3 @@
+pub mod Bump
+pub mod Count
+pub mod Lock
