@@ -2,3 +2,4 @@ pub mod Effects
 pub mod Filled
 pub mod Numbers
 pub mod Deaths
+pub mod Lists

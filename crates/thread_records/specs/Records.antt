@@ -4,6 +4,8 @@ use mathlib.Core.Bool.{Bool, true, false, cond, not}
 use mathlib.Core.List.{List, [], _∷_}
 use lib.Dec.{leb, eqb}
 use Rattle.unique_index_set_enums.specs.declared.Index.{Index}
+use Rattle.unique_index_set_enums.specs.declared.OwnerId.{OwnerId}
+use Rattle.unique_index_set_enums.specs.declared.Generation.{Generation}
 use Rattle.unique_index_set_enums.specs.declared.RecordNumber.{RecordNumber}
 use Rattle.unique_index_set_enums.specs.Kinds.{index, owner, generation}
 use Rattle.thread_records.specs.declared.OwnerList.{OwnerList}
@@ -35,6 +37,25 @@ plainCall place mode i seen value = record {
   room = 0;
   counting = noCounting;
 }
+
+-- what a robust call remembers; all else 0
+abbrev pub robustCall : ℕ → ℕ → Index → OwnerId → Generation → ℕ → ℕ → Counting → Remembered
+robustCall place mode i o g reported room counting = record {
+  place = place;
+  mode = mode;
+  index = i;
+  seen = 0;
+  value = 0;
+  owner = o;
+  generation = g;
+  reported = reported;
+  room = room;
+  counting = counting;
+}
+
+-- what a bump outside a count remembers
+abbrev pub bumpCounting : Generation → Counting
+bumpCounting seen = record { generation = generation 0; cell = index 0; counted = 0; bump = seen }
 
 -- no call: all 0
 abbrev pub idleCall : Remembered

@@ -5,11 +5,13 @@ use calls::Tests;
 use calls::Verdict;
 use unique_index_set_enums::Generation;
 use unique_index_set_enums::Index;
+use unique_index_set_enums::OWNERS_LIMIT;
 use unique_index_set_enums::OwnerId;
 use unique_index_set_enums::RECORDS_LIMIT;
 use unique_index_set_enums::RecordNumber;
 ghost use mathlib.Core.Path.{_≡_};
-ghost use Rattle.thread_records.specs.Records.{emptyList, noCounting, plainCall, idleCall, liveRecord, idleRecord, notAlive, notIdle, notCalling};
+ghost use Rattle.thread_records.specs.Records.{emptyList, noCounting, plainCall, robustCall, bumpCounting, idleCall, liveRecord, idleRecord, notAlive, notIdle, notCalling};
+ghost use Rattle.thread_records.specs.Lists.{ownersCounted, listed, goodList};
 ghost use Rattle.thread_records.specs.Deaths.{deathTests, deathOf};
 
 // The owners that a recover goes by. Those from `count` on say nothing.
@@ -85,6 +87,45 @@ pub fn plain_call(place: u8, mode: u8, index: Index, seen: u64, value: u32) -> R
     }
 }
 
+// What a robust call remembers, and 0 for all else.
+pub fn robust_call(
+    place: u8,
+    mode: u8,
+    index: Index,
+    owner: OwnerId,
+    generation: Generation,
+    reported: u32,
+    room: u32,
+    counting: Counting,
+) -> Remembered
+    ensures { λ r. ⌜ r ≡ robustCall place mode index owner generation reported room counting ⌝ }
+{
+    Remembered {
+        place: place,
+        mode: mode,
+        index: index,
+        seen: 0,
+        value: 0,
+        owner: owner,
+        generation: generation,
+        reported: reported,
+        room: room,
+        counting: counting,
+    }
+}
+
+// What a bump outside a count remembers.
+pub fn bump_counting(seen: Generation) -> Counting
+    ensures { λ r. ⌜ r ≡ bumpCounting seen ⌝ }
+{
+    Counting {
+        generation: Generation(0),
+        cell: Index(0),
+        counted: 0,
+        bump: seen,
+    }
+}
+
 pub fn idle_call() -> Remembered
     ensures { λ r. ⌜ r ≡ idleCall ⌝ }
 {
@@ -107,6 +148,42 @@ pub fn idle_record(list: OwnerList) -> Record
     ensures { λ r. ⌜ r ≡ idleRecord list ⌝ }
 {
     live_record(idle_call(), list)
+}
+
+// How many of the 8 owners the list counts.
+fn owners_counted(count: u8) -> u8
+    ensures { λ r. ⌜ r ≡ ownersCounted count ⌝ }
+{
+    if count > OWNERS_LIMIT {
+        return OWNERS_LIMIT;
+    }
+    count
+}
+
+// Whether the owner is among those that the list counts.
+pub fn is_listed(list: OwnerList, owner: OwnerId) -> bool
+    ensures { λ r. ⌜ r ≡ listed list owner ⌝ }
+{
+    let mut i = owners_counted(list.count);
+    while i > 0 {
+        i -= 1;
+        let at = i as usize;
+        let listed = list.owners[at];
+        if listed.0 == owner.0 {
+            return true;
+        }
+    }
+    false
+}
+
+// At most 8 owners, u64::MAX not among them.
+pub fn is_good_list(list: OwnerList) -> bool
+    ensures { λ r. ⌜ r ≡ goodList list ⌝ }
+{
+    if list.count > OWNERS_LIMIT {
+        return false;
+    }
+    !is_listed(list, OwnerId::EMPTY)
 }
 
 // No such record, or a dead one.
