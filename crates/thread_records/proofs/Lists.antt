@@ -1,6 +1,7 @@
 -- One owner more or less of a list. Assumes nothing.
 use Prim.Native.Nat.{ℕ, zero, suc, _≤_}
 use mathlib.Core.Path.{_≡_, refl}
+use mathlib.Core.Bool.{true, false}
 use mathlib.Core.List.{List}
 use lib.ListN.{getD}
 use lib.Dec.{ltb, lit≤}
