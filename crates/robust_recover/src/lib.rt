@@ -2,27 +2,39 @@
 use calls::Noted;
 use robust_moves::Access;
 use robust_moves::BumpPlace;
+use robust_moves::BumpRead;
 use robust_moves::Bumped;
 use robust_moves::CellAfter;
 use robust_moves::LockPlace;
+use robust_moves::LockRead;
 use robust_moves::Locked;
 use robust_moves::Saw;
 use robust_moves::bump_access;
 use robust_moves::bump_resume;
 use robust_moves::cell_after;
+use robust_moves::close_bump;
+use robust_moves::close_lock;
 use robust_moves::is_bump_sound;
 use robust_moves::is_lock_sound;
 use robust_moves::lock_access;
 use robust_moves::lock_resume;
+use robust_moves::read_bump;
+use robust_moves::read_lock;
 use thread_records::OwnerList;
+use thread_records::Remembered;
+use thread_records::bump_counting;
 use thread_records::is_listed;
+use thread_records::no_counting;
+use thread_records::robust_call;
 use unique_index_set_enums::Generation;
 use unique_index_set_enums::Index;
+use unique_index_set_enums::ModeRead;
 use unique_index_set_enums::OwnerId;
 use unique_index_set_enums::ReleaseMode;
 use unique_index_set_enums::ReleaseState;
+use unique_index_set_enums::read_mode;
 ghost use mathlib.Core.Path.{_≡_};
-ghost use Rattle.robust_recover.specs.Recover.{restSound, hasNext, recoverSound, readsList, recoverAccess, restOf, recoverLooked, recoverNext, recoverRest, recoverLoaded, afterFreed, recoverBumped, recoverLocked, lastLooked, recoverResumed, recoverNoted};
+ghost use Rattle.robust_recover.specs.Recover.{restSound, hasNext, recoverSound, readsList, recoverAccess, restOf, recoverLooked, recoverNext, recoverRest, recoverLoaded, afterFreed, recoverBumped, recoverLocked, lastLooked, recoverResumed, recoverNoted, restRead, recoverReadIn, recoverReadBump, recoverReadLock, recoverRead, restCell, restMode, recoverClosed};
 
 // What is left to do behind the cell at hand: a further cell, in the mode, or the last look.
 pub enum Rest {
@@ -273,5 +285,204 @@ pub fn recover_note(place: RecoverPlace, saw: Saw) -> Noted
         RecoverPlace::Bump(_, _, _) => Noted::Nothing,
         RecoverPlace::Lock(_, _) => Noted::Nothing,
         RecoverPlace::LastLook => Noted::Nothing,
+    }
+}
+
+pub enum RecoverRead {
+    Known(RecoverPlace),
+    Unknown,
+}
+
+// The look, a load and the exchange, whose mode has to be known.
+fn read_recover_in(part: u8, call: Remembered) -> RecoverRead
+    ensures { λ r. ⌜ r ≡ recoverReadIn part call ⌝ }
+{
+    let cell = call.index;
+    let owner = call.owner;
+    let mode = read_mode(call.mode);
+    match mode {
+        ModeRead::Unknown => RecoverRead::Unknown,
+        ModeRead::Known(m) => {
+            if part == 0 {
+                return RecoverRead::Known(RecoverPlace::Look(m));
+            }
+            if part == 1 {
+                return RecoverRead::Known(RecoverPlace::Load(cell, m));
+            }
+            RecoverRead::Known(RecoverPlace::Exchange(cell, m, owner))
+        }
+    }
+}
+
+fn read_recover_bump(part: u8, call: Remembered) -> RecoverRead
+    ensures { λ r. ⌜ r ≡ recoverReadBump part call ⌝ }
+{
+    let cell = call.index;
+    let counting = call.counting;
+    let seen = counting.bump;
+    let read = read_bump(part, seen);
+    match read {
+        BumpRead::Unknown => RecoverRead::Unknown,
+        BumpRead::Known(bump) => {
+            let mode = read_mode(call.mode);
+            match mode {
+                ModeRead::Known(m) => RecoverRead::Known(RecoverPlace::Bump(cell, m, bump)),
+                ModeRead::Unknown => RecoverRead::Unknown,
+            }
+        }
+    }
+}
+
+pub enum RestRead {
+    Known(Rest),
+    Unknown,
+}
+
+// The mode is read only where a cell follows.
+fn read_rest(capacity: u32, call: Remembered) -> RestRead
+    ensures { λ r. ⌜ r ≡ restRead capacity call ⌝ }
+{
+    let cell = call.index;
+    if has_next(capacity, cell) {
+        let mode = read_mode(call.mode);
+        match mode {
+            ModeRead::Known(m) => {
+                return RestRead::Known(Rest::Cells(cell, m));
+            }
+            ModeRead::Unknown => {
+                return RestRead::Unknown;
+            }
+        }
+    }
+    RestRead::Known(Rest::LastLook(cell))
+}
+
+fn read_recover_lock(capacity: u32, part: u8, call: Remembered) -> RecoverRead
+    ensures { λ r. ⌜ r ≡ recoverReadLock capacity part call ⌝ }
+{
+    let counting = call.counting;
+    let read = read_lock(part, counting);
+    match read {
+        LockRead::Unknown => RecoverRead::Unknown,
+        LockRead::Known(lock) => {
+            let behind = read_rest(capacity, call);
+            match behind {
+                RestRead::Known(rest) => RecoverRead::Known(RecoverPlace::Lock(rest, lock)),
+                RestRead::Unknown => RecoverRead::Unknown,
+            }
+        }
+    }
+}
+
+// Parts 0 to 2 are the look, a load and the exchange, 3 and 4 the bump's, 5 to 10 the lock's, 11 the last look.
+pub fn read_recover(capacity: u32, part: u8, call: Remembered) -> RecoverRead
+    ensures { λ r. ⌜ r ≡ recoverRead capacity part call ⌝ }
+{
+    if part < 3 {
+        return read_recover_in(part, call);
+    }
+    if part < 5 {
+        return read_recover_bump(part - 3, call);
+    }
+    if part < 11 {
+        return read_recover_lock(capacity, part - 5, call);
+    }
+    if part == 11 {
+        return RecoverRead::Known(RecoverPlace::LastLook);
+    }
+    RecoverRead::Unknown
+}
+
+fn rest_cell(rest: Rest) -> Index
+    ensures { λ r. ⌜ r ≡ restCell rest ⌝ }
+{
+    match rest {
+        Rest::Cells(cell, _) => cell,
+        Rest::LastLook(cell) => cell,
+    }
+}
+
+fn rest_mode(rest: Rest) -> u8
+    ensures { λ r. ⌜ r ≡ restMode rest ⌝ }
+{
+    match rest {
+        Rest::Cells(_, mode) => mode.number(),
+        Rest::LastLook(_) => 0,
+    }
+}
+
+// Its places are the numbers from 96 on.
+pub fn close_recover(place: RecoverPlace) -> Remembered
+    ensures { λ r. ⌜ r ≡ recoverClosed place ⌝ }
+{
+    match place {
+        RecoverPlace::Look(mode) => robust_call(
+            96,
+            mode.number(),
+            Index(0),
+            OwnerId(0),
+            Generation(0),
+            0,
+            0,
+            no_counting(),
+        ),
+        RecoverPlace::Load(cell, mode) => robust_call(
+            97,
+            mode.number(),
+            cell,
+            OwnerId(0),
+            Generation(0),
+            0,
+            0,
+            no_counting(),
+        ),
+        RecoverPlace::Exchange(cell, mode, owner) => robust_call(
+            98,
+            mode.number(),
+            cell,
+            owner,
+            Generation(0),
+            0,
+            0,
+            no_counting(),
+        ),
+        RecoverPlace::Bump(cell, mode, bump) => {
+            let closed = close_bump(bump);
+            let seen = closed.seen;
+            robust_call(
+                std::num::wrapping_add_u8(closed.part, 99),
+                mode.number(),
+                cell,
+                OwnerId(0),
+                Generation(0),
+                0,
+                0,
+                bump_counting(seen),
+            )
+        }
+        RecoverPlace::Lock(rest, lock) => {
+            let closed = close_lock(lock);
+            let counting = closed.counting;
+            robust_call(
+                std::num::wrapping_add_u8(closed.part, 101),
+                rest_mode(rest),
+                rest_cell(rest),
+                OwnerId(0),
+                Generation(0),
+                0,
+                0,
+                counting,
+            )
+        }
+        RecoverPlace::LastLook => robust_call(
+            107,
+            0,
+            Index(0),
+            OwnerId(0),
+            Generation(0),
+            0,
+            0,
+            no_counting(),
+        ),
     }
 }

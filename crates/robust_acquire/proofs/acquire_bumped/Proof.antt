@@ -1,31 +1,22 @@
 use borrow.Author.Needs.{needs}
 use Rattle.robust_acquire.proofs.acquire_bumped.Statement.{statement}
 use Rattle.robust_acquire.proofs.acquire_bumped.Tie as tie
-use Rattle.robust_acquire.proofs.acquire_bumped.Reads as reads
-use Rattle.robust_acquire.proofs.acquire_bumped.Lts as lts
-use Rattle.unique_index_set_enums.proofs.Generation.is_locked.Reads as is-locked-reads
 
--- src/lib.rt:105:23
 enum-known-bumped : tie.Need-enum-known-bumped
 enum-known-bumped c = search needs
 
--- src/lib.rt:106:23
 enum-known-bumped-2 : tie.Need-enum-known-bumped-2
 enum-known-bumped-2 c = search needs
 
--- src/lib.rt:107:16
 is-locked-requires : tie.Need-is-locked-requires
 is-locked-requires c κs = search needs
 
--- src/lib.rt:108:17
 returns : tie.Need-returns
 returns c = simp (← c .before .is-locked .ensures, c .if1 .taken, c .before .before .before .bumped2 .given .1)
 
--- src/lib.rt:101:1
 returns-2 : tie.Need-returns-2
 returns-2 c = simp (c .before .bumped .given .1)
 
--- src/lib.rt:101:1
 returns-3 : tie.Need-returns-3
 returns-3 c = simp (← c .before .is-locked .ensures, c .if1 .left, c .before .before .before .bumped2 .given .1)
 

@@ -1,83 +1,58 @@
 use borrow.Author.Needs.{needs}
 use Rattle.robust_acquire.proofs.close_acquire.Statement.{statement}
 use Rattle.robust_acquire.proofs.close_acquire.Tie as tie
-use Rattle.robust_acquire.proofs.close_acquire.Reads as reads
-use Rattle.robust_acquire.proofs.close_acquire.Lts as lts
-use Rattle.robust_moves.proofs.close_bump.Reads as close-bump-reads
-use Rattle.std.proofs.num.wrapping_add_u8.Reads as wrapping-add-u8-reads
-use Rattle.thread_records.proofs.bump_counting.Reads as bump-counting-reads
-use Rattle.thread_records.proofs.no_counting.Reads as no-counting-reads
-use Rattle.thread_records.proofs.robust_call.Reads as robust-call-reads
 
--- src/lib.rt:179:28
 enum-known-place : tie.Need-enum-known-place
 enum-known-place c = search needs
 
--- src/lib.rt:187:13
 no-counting-requires : tie.Need-no-counting-requires
 no-counting-requires c κs = search needs
 
--- src/lib.rt:179:38
 robust-call-requires : tie.Need-robust-call-requires
 robust-call-requires c κs = search needs
 
--- src/lib.rt:189:28
 enum-known-place-2 : tie.Need-enum-known-place-2
 enum-known-place-2 c = search needs
 
--- src/lib.rt:197:13
 no-counting-requires-2 : tie.Need-no-counting-requires-2
 no-counting-requires-2 c κs = search needs
 
--- src/lib.rt:189:50
 robust-call-requires-2 : tie.Need-robust-call-requires-2
 robust-call-requires-2 c κs = search needs
 
--- src/lib.rt:199:29
 enum-known-place-3 : tie.Need-enum-known-place-3
 enum-known-place-3 c = search needs
 
--- src/lib.rt:207:13
 no-counting-requires-3 : tie.Need-no-counting-requires-3
 no-counting-requires-3 c κs = search needs
 
--- src/lib.rt:199:45
 robust-call-requires-3 : tie.Need-robust-call-requires-3
 robust-call-requires-3 c κs = search needs
 
--- src/lib.rt:209:28
 enum-known-place-4 : tie.Need-enum-known-place-4
 enum-known-place-4 c = search needs
 
--- src/lib.rt:210:17
 close-bump-requires : tie.Need-close-bump-requires
 close-bump-requires c κs = search needs
 
--- src/lib.rt:213:17
 wrapping-add-u8-requires : tie.Need-wrapping-add-u8-requires
 wrapping-add-u8-requires c κs = search needs
 
--- src/lib.rt:220:17
 bump-counting-requires : tie.Need-bump-counting-requires
 bump-counting-requires c κs = search needs
 
--- src/lib.rt:212:13
 robust-call-requires-4 : tie.Need-robust-call-requires-4
 robust-call-requires-4 c κs = search needs
 
--- src/lib.rt:175:1
 returns : tie.Need-returns
 returns c = simp (c .robust-call .ensures, c .before .no-counting .ensures, c .before .before .before .place .given .1)
 
--- src/lib.rt:175:1
 returns-2 : tie.Need-returns-2
 returns-2 c = simp (c .robust-call2 .ensures, c .before .no-counting2 .ensures, c .before .before .before .place2 .given .1)
 
--- src/lib.rt:175:1
 returns-3 : tie.Need-returns-3
 returns-3 c = simp (c .robust-call3 .ensures, c .before .no-counting3 .ensures, c .before .before .before .place3 .given .1)
 
--- src/lib.rt:175:1
 returns-4 : tie.Need-returns-4
 returns-4 c = simp (c .robust-call4 .ensures, c .before .bump-counting .ensures, c .before .before .wrapping-add-u8 .ensures, c .before .before .before .before .close-bump .ensures, c .before .before .before .before .before .before .place4 .given .1)
 

@@ -1,37 +1,24 @@
-use borrow.Author.Tests.{le-ltb}
-use borrow.Author.Tests.{le-leb}
-use borrow.Author.Tests.{lt-leb}
-use borrow.Author.Tests.{lt-ltb}
-use borrow.Author.Tests.{ne-eqb}
-use borrow.Author.Tests.{eq-eqb}
-use Rattle.robust_acquire.specs.Acquire.{acquireRead}
+use borrow.Author.Tests.{le-ltb, lt-ltb, ne-eqb, eq-eqb}
 use borrow.Author.Needs.{needs}
+use Rattle.robust_acquire.specs.Acquire.{acquireRead}
 use Rattle.robust_acquire.proofs.read_acquire.Statement.{statement}
 use Rattle.robust_acquire.proofs.read_acquire.Tie as tie
-use Rattle.robust_acquire.proofs.read_acquire.Reads as reads
-use Rattle.robust_acquire.proofs.read_acquire.Lts as lts
-use Rattle.robust_acquire.proofs.read_acquire_bump.Reads as read-acquire-bump-reads
 
--- src/lib.rt:163:9
 returns : tie.Need-returns
 unfolding acquireRead
 returns c = simp (eq-eqb _ _ (c .if1 .taken))
 
--- src/lib.rt:166:9
 returns-2 : tie.Need-returns-2
 unfolding acquireRead
 returns-2 c = simp (lt-ltb _ _ (c .if2 .taken), ne-eqb _ _ (c .before .if1 .left))
 
--- src/lib.rt:169:9
 returns-3 : tie.Need-returns-3
 unfolding acquireRead
 returns-3 c = simp (lt-ltb _ _ (c .if3 .taken), le-ltb _ _ (c .before .if2 .left), ne-eqb _ _ (c .before .before .if1 .left))
 
--- src/lib.rt:171:5
 read-acquire-bump-requires : tie.Need-read-acquire-bump-requires
 read-acquire-bump-requires c κs = search needs
 
--- src/lib.rt:156:1
 returns-4 : tie.Need-returns-4
 unfolding acquireRead
 returns-4 c = simp (c .read-acquire-bump .ensures, le-ltb _ _ (c .before .if3 .left), le-ltb _ _ (c .before .before .if2 .left), ne-eqb _ _ (c .before .before .before .if1 .left))

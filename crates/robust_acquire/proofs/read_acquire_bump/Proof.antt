@@ -1,29 +1,21 @@
-use Rattle.robust_acquire.specs.Acquire.{acquireReadBump}
 use borrow.Author.Needs.{needs}
+use Rattle.robust_acquire.specs.Acquire.{acquireReadBump}
 use Rattle.robust_acquire.proofs.read_acquire_bump.Statement.{statement}
 use Rattle.robust_acquire.proofs.read_acquire_bump.Tie as tie
-use Rattle.robust_acquire.proofs.read_acquire_bump.Reads as reads
-use Rattle.robust_acquire.proofs.read_acquire_bump.Lts as lts
-use Rattle.robust_moves.proofs.read_bump.Reads as read-bump-reads
 
--- src/lib.rt:148:9
 read-bump-requires : tie.Need-read-bump-requires
 read-bump-requires c κs = search needs
 
--- src/lib.rt:150:25
 enum-known-read : tie.Need-enum-known-read
 enum-known-read c = search needs
 
--- src/lib.rt:151:30
 enum-told : tie.Need-enum-told
 enum-told c = search needs
 
--- src/lib.rt:142:1
 returns : tie.Need-returns
 unfolding acquireReadBump
 returns c = simp (← c .before .before .before .read-bump .ensures, c .before .read .given .1)
 
--- src/lib.rt:142:1
 returns-2 : tie.Need-returns-2
 unfolding acquireReadBump
 returns-2 c = simp (← c .before .before .read-bump .ensures, c .enum-told .given .1)

@@ -1,17 +1,12 @@
-use borrow.Author.Tests.{ne-eqb}
-use borrow.Author.Tests.{eq-eqb}
+use borrow.Author.Tests.{ne-eqb, eq-eqb}
 use Rattle.robust_find.specs.Find.{findNoted}
 use Rattle.robust_find.proofs.find_note.Statement.{statement}
 use Rattle.robust_find.proofs.find_note.Tie as tie
-use Rattle.robust_find.proofs.find_note.Reads as reads
-use Rattle.robust_find.proofs.find_note.Lts as lts
 
--- src/lib.rt:95:9
 returns : tie.Need-returns
 unfolding findNoted
 returns c = simp (eq-eqb _ _ (c .if1 .taken))
 
--- src/lib.rt:90:1
 returns-2 : tie.Need-returns-2
 unfolding findNoted
 returns-2 c = simp (ne-eqb _ _ (c .if1 .left))

@@ -1,90 +1,62 @@
-use borrow.Author.Tests.{lt-leb}
-use borrow.Author.Tests.{lt-ltb}
-use borrow.Author.Tests.{le-ltb}
-use borrow.Author.Tests.{le-leb}
+use borrow.Author.Tests.{lt-leb, le-leb}
 use borrow.Author.Needs.{needs}
 use Rattle.robust_recover.proofs.is_recover_sound.Statement.{statement}
 use Rattle.robust_recover.proofs.is_recover_sound.Tie as tie
-use Rattle.robust_recover.proofs.is_recover_sound.Reads as reads
-use Rattle.robust_recover.proofs.is_recover_sound.Lts as lts
-use Rattle.robust_moves.proofs.is_bump_sound.Reads as is-bump-sound-reads
-use Rattle.robust_moves.proofs.is_lock_sound.Reads as is-lock-sound-reads
-use Rattle.robust_recover.proofs.is_rest_sound.Reads as is-rest-sound-reads
-use Rattle.unique_index_set_enums.proofs.OwnerId.is_empty.Reads as is-empty-reads
 
--- src/lib.rt:76:34
 enum-told : tie.Need-enum-told
 enum-told c = search needs
 
--- src/lib.rt:77:28
 enum-known-place : tie.Need-enum-known-place
 enum-known-place c = search needs
 
--- src/lib.rt:78:32
 enum-known-place-2 : tie.Need-enum-known-place-2
 enum-known-place-2 c = search needs
 
--- src/lib.rt:79:16
 is-empty-requires : tie.Need-is-empty-requires
 is-empty-requires c κs = search needs
 
--- src/lib.rt:80:17
 returns : tie.Need-returns
 returns c = simp (← c .before .is-empty .ensures, c .if1 .taken, c .before .before .before .place2 .given .1)
 
--- src/lib.rt:84:28
 enum-known-place-3 : tie.Need-enum-known-place-3
 enum-known-place-3 c = search needs
 
--- src/lib.rt:86:17
 returns-2 : tie.Need-returns-2
 returns-2 c = simp (le-leb _ _ (c .if2 .taken), c .before .before .before .place3 .given .1)
 
--- src/lib.rt:88:13
 is-bump-sound-requires : tie.Need-is-bump-sound-requires
 is-bump-sound-requires c κs = search needs
 
--- src/lib.rt:90:28
 enum-known-place-4 : tie.Need-enum-known-place-4
 enum-known-place-4 c = search needs
 
--- src/lib.rt:91:16
 is-rest-sound-requires : tie.Need-is-rest-sound-requires
 is-rest-sound-requires c κs = search needs
 
--- src/lib.rt:92:17
 is-lock-sound-requires : tie.Need-is-lock-sound-requires
 is-lock-sound-requires c κs = search needs
 
--- src/lib.rt:92:17
 returns-3 : tie.Need-returns-3
 returns-3 c = simp (c .is-lock-sound .ensures, ← c .before .before .is-rest-sound .ensures, c .before .if3 .taken, c .before .before .before .before .place4 .given .1)
 
--- src/lib.rt:96:35
 enum-told-2 : tie.Need-enum-told-2
 enum-told-2 c = search needs
 
--- src/lib.rt:72:1
 returns-4 : tie.Need-returns-4
 returns-4 c = search needs
 
--- src/lib.rt:72:1
 returns-5 : tie.Need-returns-5
 returns-5 c = simp (c .before .before .place .given .1)
 
--- src/lib.rt:72:1
 returns-6 : tie.Need-returns-6
 returns-6 c = simp (← c .before .before .is-empty .ensures, c .before .if1 .left, c .before .before .before .before .place2 .given .1)
 
--- src/lib.rt:72:1
 returns-7 : tie.Need-returns-7
 returns-7 c = simp (c .is-bump-sound .ensures, lt-leb _ _ (c .before .if2 .left), c .before .before .before .before .place3 .given .1)
 
--- src/lib.rt:72:1
 returns-8 : tie.Need-returns-8
 returns-8 c = simp (← c .before .is-rest-sound .ensures, c .if3 .left, c .before .before .before .place4 .given .1)
 
--- src/lib.rt:72:1
 returns-9 : tie.Need-returns-9
 returns-9 c = search needs
 

@@ -1,75 +1,55 @@
 use borrow.Author.Needs.{needs}
 use Rattle.robust_recover.proofs.reads_list.Statement.{statement}
 use Rattle.robust_recover.proofs.reads_list.Tie as tie
-use Rattle.robust_recover.proofs.reads_list.Reads as reads
-use Rattle.robust_recover.proofs.reads_list.Lts as lts
-use Rattle.robust_recover.proofs.has_next.Reads as has-next-reads
 
--- src/lib.rt:105:34
 enum-told : tie.Need-enum-told
 enum-told c = search needs
 
--- src/lib.rt:106:37
 enum-told-2 : tie.Need-enum-told-2
 enum-told-2 c = search needs
 
--- src/lib.rt:107:32
 enum-known-place : tie.Need-enum-known-place
 enum-known-place c = search needs
 
--- src/lib.rt:107:47
 has-next-requires : tie.Need-has-next-requires
 has-next-requires c κs = search needs
 
--- src/lib.rt:108:28
 enum-known-place-2 : tie.Need-enum-known-place-2
 enum-known-place-2 c = search needs
 
--- src/lib.rt:108:43
 has-next-requires-2 : tie.Need-has-next-requires-2
 has-next-requires-2 c κs = search needs
 
--- src/lib.rt:109:28
 enum-known-place-3 : tie.Need-enum-known-place-3
 enum-known-place-3 c = search needs
 
--- src/lib.rt:110:34
 enum-told-3 : tie.Need-enum-told-3
 enum-told-3 c = search needs
 
--- src/lib.rt:111:34
 enum-told-4 : tie.Need-enum-told-4
 enum-told-4 c = search needs
 
--- src/lib.rt:113:35
 enum-told-5 : tie.Need-enum-told-5
 enum-told-5 c = search needs
 
--- src/lib.rt:101:1
 returns : tie.Need-returns
 returns c = search needs
 
--- src/lib.rt:101:1
 returns-2 : tie.Need-returns-2
 returns-2 c = search needs
 
--- src/lib.rt:101:1
 returns-3 : tie.Need-returns-3
 returns-3 c = simp (c .has-next .ensures, c .before .before .place .given .1)
 
--- src/lib.rt:101:1
 returns-4 : tie.Need-returns-4
 returns-4 c = simp (c .has-next2 .ensures, c .before .before .place2 .given .1)
 
--- src/lib.rt:101:1
 returns-5 : tie.Need-returns-5
 returns-5 c = search needs
 
--- src/lib.rt:101:1
 returns-6 : tie.Need-returns-6
 returns-6 c = search needs
 
--- src/lib.rt:101:1
 returns-7 : tie.Need-returns-7
 returns-7 c = search needs
 

@@ -1,36 +1,25 @@
 use borrow.Author.Needs.{needs}
 use Rattle.robust_recover.proofs.recover_bumped.Statement.{statement}
 use Rattle.robust_recover.proofs.recover_bumped.Tie as tie
-use Rattle.robust_recover.proofs.recover_bumped.Reads as reads
-use Rattle.robust_recover.proofs.recover_bumped.Lts as lts
-use Rattle.robust_recover.proofs.after_freed.Reads as after-freed-reads
-use Rattle.unique_index_set_enums.proofs.Generation.is_locked.Reads as is-locked-reads
 
--- src/lib.rt:202:23
 enum-known-bumped : tie.Need-enum-known-bumped
 enum-known-bumped c = search needs
 
--- src/lib.rt:203:23
 enum-known-bumped-2 : tie.Need-enum-known-bumped-2
 enum-known-bumped-2 c = search needs
 
--- src/lib.rt:204:16
 is-locked-requires : tie.Need-is-locked-requires
 is-locked-requires c κs = search needs
 
--- src/lib.rt:205:17
 returns : tie.Need-returns
 returns c = simp (← c .before .is-locked .ensures, c .if1 .taken, c .before .before .before .bumped2 .given .1)
 
--- src/lib.rt:207:13
 after-freed-requires : tie.Need-after-freed-requires
 after-freed-requires c κs = search needs
 
--- src/lib.rt:198:1
 returns-2 : tie.Need-returns-2
 returns-2 c = simp (c .before .bumped .given .1)
 
--- src/lib.rt:198:1
 returns-3 : tie.Need-returns-3
 returns-3 c = simp (c .after-freed .ensures, ← c .before .before .is-locked .ensures, c .before .if1 .left, c .before .before .before .before .bumped2 .given .1)
 

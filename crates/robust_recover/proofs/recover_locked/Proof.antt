@@ -1,27 +1,19 @@
 use borrow.Author.Needs.{needs}
 use Rattle.robust_recover.proofs.recover_locked.Statement.{statement}
 use Rattle.robust_recover.proofs.recover_locked.Tie as tie
-use Rattle.robust_recover.proofs.recover_locked.Reads as reads
-use Rattle.robust_recover.proofs.recover_locked.Lts as lts
-use Rattle.robust_recover.proofs.recover_rest.Reads as recover-rest-reads
 
--- src/lib.rt:217:23
 enum-known-locked : tie.Need-enum-known-locked
 enum-known-locked c = search needs
 
--- src/lib.rt:218:29
 enum-told : tie.Need-enum-told
 enum-told c = search needs
 
--- src/lib.rt:218:29
 recover-rest-requires : tie.Need-recover-rest-requires
 recover-rest-requires c κs = search needs
 
--- src/lib.rt:213:1
 returns : tie.Need-returns
 returns c = simp (c .before .locked .given .1)
 
--- src/lib.rt:213:1
 returns-2 : tie.Need-returns-2
 returns-2 c = simp (c .recover-rest .ensures, c .before .enum-told .given .1)
 

@@ -1,29 +1,21 @@
-use Rattle.robust_recover.specs.Recover.{recoverNext}
 use borrow.Author.Needs.{needs}
+use Rattle.robust_recover.specs.Recover.{recoverNext}
 use Rattle.robust_recover.proofs.recover_next.Statement.{statement}
 use Rattle.robust_recover.proofs.recover_next.Tie as tie
-use Rattle.robust_recover.proofs.recover_next.Reads as reads
-use Rattle.robust_recover.proofs.recover_next.Lts as lts
-use Rattle.robust_moves.proofs.cell_after.Reads as cell-after-reads
 
--- src/lib.rt:152:9
 cell-after-requires : tie.Need-cell-after-requires
 cell-after-requires c κs = search needs
 
--- src/lib.rt:154:25
 enum-known-after : tie.Need-enum-known-after
 enum-known-after c = search needs
 
--- src/lib.rt:155:46
 enum-told : tie.Need-enum-told
 enum-told c = search needs
 
--- src/lib.rt:149:1
 returns : tie.Need-returns
 unfolding recoverNext
 returns c = simp (← c .before .before .before .cell-after .ensures, c .before .after .given .1)
 
--- src/lib.rt:149:1
 returns-2 : tie.Need-returns-2
 unfolding recoverNext
 returns-2 c = simp (← c .before .before .cell-after .ensures, c .enum-told .given .1)

@@ -1,58 +1,43 @@
 use borrow.Author.Needs.{needs}
 use Rattle.robust_recover.proofs.recover_note.Statement.{statement}
 use Rattle.robust_recover.proofs.recover_note.Tie as tie
-use Rattle.robust_recover.proofs.recover_note.Reads as reads
-use Rattle.robust_recover.proofs.recover_note.Lts as lts
 
--- src/lib.rt:270:34
 enum-told : tie.Need-enum-told
 enum-told c = search needs
 
--- src/lib.rt:271:37
 enum-told-2 : tie.Need-enum-told-2
 enum-told-2 c = search needs
 
--- src/lib.rt:272:32
 enum-known-place : tie.Need-enum-known-place
 enum-known-place c = search needs
 
--- src/lib.rt:274:17
 returns : tie.Need-returns
 returns c = simp (c .if1 .taken, c .before .before .place .given .1)
 
--- src/lib.rt:278:40
 enum-told-3 : tie.Need-enum-told-3
 enum-told-3 c = search needs
 
--- src/lib.rt:279:37
 enum-told-4 : tie.Need-enum-told-4
 enum-told-4 c = search needs
 
--- src/lib.rt:280:35
 enum-told-5 : tie.Need-enum-told-5
 enum-told-5 c = search needs
 
--- src/lib.rt:266:1
 returns-2 : tie.Need-returns-2
 returns-2 c = search needs
 
--- src/lib.rt:266:1
 returns-3 : tie.Need-returns-3
 returns-3 c = search needs
 
--- src/lib.rt:266:1
 returns-4 : tie.Need-returns-4
 returns-4 c = simp (c .if1 .left, c .before .before .place .given .1)
 
--- src/lib.rt:266:1
 returns-5 : tie.Need-returns-5
 returns-5 c = search needs
 
--- src/lib.rt:266:1
 returns-6 : tie.Need-returns-6
 returns-6 c = search needs
 
--- src/lib.rt:266:1
 returns-7 : tie.Need-returns-7
 returns-7 c = search needs
 

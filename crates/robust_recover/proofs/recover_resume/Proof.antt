@@ -1,98 +1,67 @@
 use borrow.Author.Needs.{needs}
 use Rattle.robust_recover.proofs.recover_resume.Statement.{statement}
 use Rattle.robust_recover.proofs.recover_resume.Tie as tie
-use Rattle.robust_recover.proofs.recover_resume.Reads as reads
-use Rattle.robust_recover.proofs.recover_resume.Lts as lts
-use Rattle.robust_moves.proofs.bump_resume.Reads as bump-resume-reads
-use Rattle.robust_moves.proofs.lock_resume.Reads as lock-resume-reads
-use Rattle.robust_recover.proofs.last_looked.Reads as last-looked-reads
-use Rattle.robust_recover.proofs.recover_bumped.Reads as recover-bumped-reads
-use Rattle.robust_recover.proofs.recover_loaded.Reads as recover-loaded-reads
-use Rattle.robust_recover.proofs.recover_locked.Reads as recover-locked-reads
-use Rattle.robust_recover.proofs.recover_looked.Reads as recover-looked-reads
-use Rattle.robust_recover.proofs.recover_next.Reads as recover-next-reads
 
--- src/lib.rt:242:28
 enum-known-place : tie.Need-enum-known-place
 enum-known-place c = search needs
 
--- src/lib.rt:242:37
 recover-looked-requires : tie.Need-recover-looked-requires
 recover-looked-requires c κs = search needs
 
--- src/lib.rt:243:28
 enum-known-place-2 : tie.Need-enum-known-place-2
 enum-known-place-2 c = search needs
 
--- src/lib.rt:243:43
 recover-loaded-requires : tie.Need-recover-loaded-requires
 recover-loaded-requires c κs = search needs
 
--- src/lib.rt:244:32
 enum-known-place-3 : tie.Need-enum-known-place-3
 enum-known-place-3 c = search needs
 
--- src/lib.rt:246:17
 returns : tie.Need-returns
 returns c = simp (c .if1 .taken, c .before .before .place3 .given .1)
 
--- src/lib.rt:248:13
 recover-next-requires : tie.Need-recover-next-requires
 recover-next-requires c κs = search needs
 
--- src/lib.rt:250:28
 enum-known-place-4 : tie.Need-enum-known-place-4
 enum-known-place-4 c = search needs
 
--- src/lib.rt:254:13
 bump-resume-requires : tie.Need-bump-resume-requires
 bump-resume-requires c κs = search needs
 
--- src/lib.rt:250:49
 recover-bumped-requires : tie.Need-recover-bumped-requires
 recover-bumped-requires c κs = search needs
 
--- src/lib.rt:256:28
 enum-known-place-5 : tie.Need-enum-known-place-5
 enum-known-place-5 c = search needs
 
--- src/lib.rt:259:13
 lock-resume-requires : tie.Need-lock-resume-requires
 lock-resume-requires c κs = search needs
 
--- src/lib.rt:256:43
 recover-locked-requires : tie.Need-recover-locked-requires
 recover-locked-requires c κs = search needs
 
--- src/lib.rt:261:35
 enum-told : tie.Need-enum-told
 enum-told c = search needs
 
--- src/lib.rt:261:35
 last-looked-requires : tie.Need-last-looked-requires
 last-looked-requires c κs = search needs
 
--- src/lib.rt:231:1
 returns-2 : tie.Need-returns-2
 returns-2 c = simp (c .recover-looked .ensures, c .before .before .place .given .1)
 
--- src/lib.rt:231:1
 returns-3 : tie.Need-returns-3
 returns-3 c = simp (c .recover-loaded .ensures, c .before .before .place2 .given .1)
 
--- src/lib.rt:231:1
 returns-4 : tie.Need-returns-4
 returns-4 c = simp (c .recover-next .ensures, c .before .if1 .left, c .before .before .before .place3 .given .1)
 
--- src/lib.rt:231:1
 returns-5 : tie.Need-returns-5
 returns-5 c = simp (c .recover-bumped .ensures, c .before .bump-resume .ensures, c .before .before .before .place4 .given .1)
 
--- src/lib.rt:231:1
 returns-6 : tie.Need-returns-6
 returns-6 c = simp (c .recover-locked .ensures, c .before .lock-resume .ensures, c .before .before .before .place5 .given .1)
 
--- src/lib.rt:231:1
 returns-7 : tie.Need-returns-7
 returns-7 c = simp (c .last-looked .ensures, c .before .enum-told .given .1)
 

@@ -1,21 +1,15 @@
-use Rattle.robust_recover.specs.Recover.{restOf}
 use borrow.Author.Needs.{needs}
+use Rattle.robust_recover.specs.Recover.{restOf}
 use Rattle.robust_recover.proofs.rest_of.Statement.{statement}
 use Rattle.robust_recover.proofs.rest_of.Tie as tie
-use Rattle.robust_recover.proofs.rest_of.Reads as reads
-use Rattle.robust_recover.proofs.rest_of.Lts as lts
-use Rattle.robust_recover.proofs.has_next.Reads as has-next-reads
 
--- src/lib.rt:133:8
 has-next-requires : tie.Need-has-next-requires
 has-next-requires c κs = search needs
 
--- src/lib.rt:134:9
 returns : tie.Need-returns
 unfolding restOf
 returns c = simp (← c .before .has-next .ensures, c .if1 .taken)
 
--- src/lib.rt:130:1
 returns-2 : tie.Need-returns-2
 unfolding restOf
 returns-2 c = simp (← c .before .has-next .ensures, c .if1 .left)

@@ -1,22 +1,16 @@
 use borrow.Author.Needs.{needs}
 use Rattle.robust_release.proofs.after_bump.Statement.{statement}
 use Rattle.robust_release.proofs.after_bump.Tie as tie
-use Rattle.robust_release.proofs.after_bump.Reads as reads
-use Rattle.robust_release.proofs.after_bump.Lts as lts
 
--- src/lib.rt:77:53
 enum-told : tie.Need-enum-told
 enum-told c = search needs
 
--- src/lib.rt:78:77
 enum-told-2 : tie.Need-enum-told-2
 enum-told-2 c = search needs
 
--- src/lib.rt:73:1
 returns : tie.Need-returns
 returns c = simp (c .enum-told .given .1)
 
--- src/lib.rt:73:1
 returns-2 : tie.Need-returns-2
 returns-2 c = simp (c .enum-told2 .given .1)
 

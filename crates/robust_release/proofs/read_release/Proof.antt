@@ -1,40 +1,26 @@
-use borrow.Author.Tests.{le-ltb}
-use borrow.Author.Tests.{le-leb}
-use borrow.Author.Tests.{lt-leb}
-use borrow.Author.Tests.{lt-ltb}
-use Rattle.robust_release.specs.Release.{releaseRead}
+use borrow.Author.Tests.{le-ltb, lt-ltb}
 use borrow.Author.Needs.{needs}
+use Rattle.robust_release.specs.Release.{releaseRead}
 use Rattle.robust_release.proofs.read_release.Statement.{statement}
 use Rattle.robust_release.proofs.read_release.Tie as tie
-use Rattle.robust_release.proofs.read_release.Reads as reads
-use Rattle.robust_release.proofs.read_release.Lts as lts
-use Rattle.robust_release.proofs.read_release_bump.Reads as read-release-bump-reads
-use Rattle.robust_release.proofs.read_release_cell.Reads as read-release-cell-reads
-use Rattle.robust_release.proofs.read_release_lock.Reads as read-release-lock-reads
 
--- src/lib.rt:166:9
 read-release-cell-requires : tie.Need-read-release-cell-requires
 read-release-cell-requires c κs = search needs
 
--- src/lib.rt:166:9
 returns : tie.Need-returns
 unfolding releaseRead
 returns c = simp (c .read-release-cell .ensures, lt-ltb _ _ (c .before .if1 .taken))
 
--- src/lib.rt:169:9
 read-release-bump-requires : tie.Need-read-release-bump-requires
 read-release-bump-requires c κs = search needs
 
--- src/lib.rt:169:9
 returns-2 : tie.Need-returns-2
 unfolding releaseRead
 returns-2 c = simp (c .read-release-bump .ensures, lt-ltb _ _ (c .before .if2 .taken), le-ltb _ _ (c .before .before .if1 .left))
 
--- src/lib.rt:171:5
 read-release-lock-requires : tie.Need-read-release-lock-requires
 read-release-lock-requires c κs = search needs
 
--- src/lib.rt:162:1
 returns-3 : tie.Need-returns-3
 unfolding releaseRead
 returns-3 c = simp (c .read-release-lock .ensures, le-ltb _ _ (c .before .if2 .left), le-ltb _ _ (c .before .before .if1 .left))

@@ -1,47 +1,34 @@
-use Rattle.robust_release.specs.Release.{releaseReadBump}
 use borrow.Author.Needs.{needs}
+use Rattle.robust_release.specs.Release.{releaseReadBump}
 use Rattle.robust_release.proofs.read_release_bump.Statement.{statement}
 use Rattle.robust_release.proofs.read_release_bump.Tie as tie
-use Rattle.robust_release.proofs.read_release_bump.Reads as reads
-use Rattle.robust_release.proofs.read_release_bump.Lts as lts
-use Rattle.robust_moves.proofs.read_bump.Reads as read-bump-reads
-use Rattle.unique_index_set_enums.proofs.read_mode.Reads as read-mode-reads
 
--- src/lib.rt:137:9
 read-bump-requires : tie.Need-read-bump-requires
 read-bump-requires c κs = search needs
 
--- src/lib.rt:139:30
 enum-told : tie.Need-enum-told
 enum-told c = search needs
 
--- src/lib.rt:140:25
 enum-known-read : tie.Need-enum-known-read
 enum-known-read c = search needs
 
--- src/lib.rt:141:17
 read-mode-requires : tie.Need-read-mode-requires
 read-mode-requires c κs = search needs
 
--- src/lib.rt:143:33
 enum-known-mode : tie.Need-enum-known-mode
 enum-known-mode c = search needs
 
--- src/lib.rt:144:38
 enum-told-2 : tie.Need-enum-told-2
 enum-told-2 c = search needs
 
--- src/lib.rt:132:1
 returns : tie.Need-returns
 unfolding releaseReadBump
 returns c = simp (← c .before .before .read-bump .ensures, c .enum-told .given .1)
 
--- src/lib.rt:132:1
 returns-2 : tie.Need-returns-2
 unfolding releaseReadBump
 returns-2 c = simp (← c .before .before .before .read-mode .ensures, ← c .before .before .before .before .before .before .before .read-bump .ensures, c .before .mode .given .1, c .before .before .before .before .before .read .given .1)
 
--- src/lib.rt:132:1
 returns-3 : tie.Need-returns-3
 unfolding releaseReadBump
 returns-3 c = simp (← c .before .before .read-mode .ensures, ← c .before .before .before .before .before .before .read-bump .ensures, c .enum-told2 .given .1, c .before .before .before .before .read .given .1)

@@ -1,29 +1,21 @@
-use Rattle.robust_release.specs.Release.{releaseReadLock}
 use borrow.Author.Needs.{needs}
+use Rattle.robust_release.specs.Release.{releaseReadLock}
 use Rattle.robust_release.proofs.read_release_lock.Statement.{statement}
 use Rattle.robust_release.proofs.read_release_lock.Tie as tie
-use Rattle.robust_release.proofs.read_release_lock.Reads as reads
-use Rattle.robust_release.proofs.read_release_lock.Lts as lts
-use Rattle.robust_moves.proofs.read_lock.Reads as read-lock-reads
 
--- src/lib.rt:154:9
 read-lock-requires : tie.Need-read-lock-requires
 read-lock-requires c κs = search needs
 
--- src/lib.rt:156:25
 enum-known-read : tie.Need-enum-known-read
 enum-known-read c = search needs
 
--- src/lib.rt:157:30
 enum-told : tie.Need-enum-told
 enum-told c = search needs
 
--- src/lib.rt:150:1
 returns : tie.Need-returns
 unfolding releaseReadLock
 returns c = simp (← c .before .before .before .read-lock .ensures, c .before .read .given .1)
 
--- src/lib.rt:150:1
 returns-2 : tie.Need-returns-2
 unfolding releaseReadLock
 returns-2 c = simp (← c .before .before .read-lock .ensures, c .enum-told .given .1)

@@ -1,22 +1,16 @@
 use borrow.Author.Needs.{needs}
 use Rattle.robust_release.proofs.release_locked.Statement.{statement}
 use Rattle.robust_release.proofs.release_locked.Tie as tie
-use Rattle.robust_release.proofs.release_locked.Reads as reads
-use Rattle.robust_release.proofs.release_locked.Lts as lts
 
--- src/lib.rt:95:23
 enum-known-locked : tie.Need-enum-known-locked
 enum-known-locked c = search needs
 
--- src/lib.rt:96:23
 enum-known-locked-2 : tie.Need-enum-known-locked-2
 enum-known-locked-2 c = search needs
 
--- src/lib.rt:91:1
 returns : tie.Need-returns
 returns c = simp (c .before .locked .given .1)
 
--- src/lib.rt:91:1
 returns-2 : tie.Need-returns-2
 returns-2 c = simp (c .before .locked2 .given .1)
 

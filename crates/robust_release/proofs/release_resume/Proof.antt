@@ -1,54 +1,37 @@
 use borrow.Author.Needs.{needs}
 use Rattle.robust_release.proofs.release_resume.Statement.{statement}
 use Rattle.robust_release.proofs.release_resume.Tie as tie
-use Rattle.robust_release.proofs.release_resume.Reads as reads
-use Rattle.robust_release.proofs.release_resume.Lts as lts
-use Rattle.robust_moves.proofs.bump_resume.Reads as bump-resume-reads
-use Rattle.robust_moves.proofs.lock_resume.Reads as lock-resume-reads
-use Rattle.robust_release.proofs.release_bumped.Reads as release-bumped-reads
-use Rattle.robust_release.proofs.release_locked.Reads as release-locked-reads
 
--- src/lib.rt:104:34
 enum-known-place : tie.Need-enum-known-place
 enum-known-place c = search needs
 
--- src/lib.rt:106:17
 returns : tie.Need-returns
 returns c = simp (c .if1 .taken, c .before .before .place .given .1)
 
--- src/lib.rt:110:28
 enum-known-place-2 : tie.Need-enum-known-place-2
 enum-known-place-2 c = search needs
 
--- src/lib.rt:110:64
 bump-resume-requires : tie.Need-bump-resume-requires
 bump-resume-requires c κs = search needs
 
--- src/lib.rt:110:43
 release-bumped-requires : tie.Need-release-bumped-requires
 release-bumped-requires c κs = search needs
 
--- src/lib.rt:111:28
 enum-known-place-3 : tie.Need-enum-known-place-3
 enum-known-place-3 c = search needs
 
--- src/lib.rt:111:52
 lock-resume-requires : tie.Need-lock-resume-requires
 lock-resume-requires c κs = search needs
 
--- src/lib.rt:111:37
 release-locked-requires : tie.Need-release-locked-requires
 release-locked-requires c κs = search needs
 
--- src/lib.rt:100:1
 returns-2 : tie.Need-returns-2
 returns-2 c = simp (c .if1 .left, c .before .before .place .given .1)
 
--- src/lib.rt:100:1
 returns-3 : tie.Need-returns-3
 returns-3 c = simp (c .release-bumped .ensures, c .before .bump-resume .ensures, c .before .before .before .place2 .given .1)
 
--- src/lib.rt:100:1
 returns-4 : tie.Need-returns-4
 returns-4 c = simp (c .release-locked .ensures, c .before .lock-resume .ensures, c .before .before .before .place3 .given .1)
 

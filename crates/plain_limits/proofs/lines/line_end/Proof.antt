@@ -3,8 +3,6 @@ use Prim.Native.Nat.{_-_, _≤_}
 use lib.ListN.{length}
 use Rattle.plain_limits.proofs.lines.line_end.Statement.{statement}
 use Rattle.plain_limits.proofs.lines.line_end.Tie as tie
-use Rattle.plain_limits.proofs.lines.line_end.Reads as reads
-use Rattle.plain_limits.proofs.lines.line_end.Lts as lts
 
 abbrev Inv-loop : tie.InvT-loop
 Inv-loop input at end₀ end = at ≤ end
@@ -12,35 +10,27 @@ Inv-loop input at end₀ end = at ≤ end
 abbrev μ-loop : tie.MeasureT-loop
 μ-loop input at end₀ end = length input - end
 
--- src/lines.rt:22:5
 loop-holds : tie.Need-loop-holds Inv-loop μ-loop
 loop-holds c = search needs
 
--- src/lines.rt:23:12
 shared-slice-read-if1 : tie.Need-shared-slice-read-if1 Inv-loop μ-loop
 shared-slice-read-if1 c = search needs
 
--- src/lines.rt:24:20
 add-result : tie.Need-add-result Inv-loop μ-loop
 add-result c = search needs
 
--- src/lines.rt:24:13
 returns : tie.Need-returns Inv-loop μ-loop
 returns c = search needs
 
--- src/lines.rt:26:9
 add-end : tie.Need-add-end Inv-loop μ-loop
 add-end c = search needs
 
--- src/lines.rt:22:5
 loop-less : tie.Need-loop-less Inv-loop μ-loop
 loop-less c = search needs
 
--- src/lines.rt:22:5
 loop-again : tie.Need-loop-again Inv-loop μ-loop
 loop-again c = search needs
 
--- src/lines.rt:17:1
 returns-2 : tie.Need-returns-2 Inv-loop μ-loop
 returns-2 c = search needs
 

@@ -3,9 +3,6 @@ use Prim.Native.Nat.{_-_}
 use lib.ListN.{length}
 use Rattle.plain_limits.proofs.lines.number.Statement.{statement}
 use Rattle.plain_limits.proofs.lines.number.Tie as tie
-use Rattle.plain_limits.proofs.lines.number.Reads as reads
-use Rattle.plain_limits.proofs.lines.number.Lts as lts
-use Rattle.plain_limits.proofs.lines.digits.Reads as digits-reads
 
 abbrev Inv-loop : tie.InvT-loop
 Inv-loop input from at₀ at = Unit {0}
@@ -13,47 +10,36 @@ Inv-loop input from at₀ at = Unit {0}
 abbrev μ-loop : tie.MeasureT-loop
 μ-loop input from at₀ at = length input - at
 
--- src/lines.rt:71:5
 loop-holds : tie.Need-loop-holds Inv-loop μ-loop
 loop-holds c = search needs
 
--- src/lines.rt:71:31
 shared-slice-read-if1 : tie.Need-shared-slice-read-if1 Inv-loop μ-loop
 shared-slice-read-if1 c = search needs
 
--- src/lines.rt:72:9
 add-at : tie.Need-add-at Inv-loop μ-loop
 add-at c = search needs
 
--- src/lines.rt:71:5
 loop-less : tie.Need-loop-less Inv-loop μ-loop
 loop-less c = search needs
 
--- src/lines.rt:71:5
 loop-again : tie.Need-loop-again Inv-loop μ-loop
 loop-again c = search needs
 
--- src/lines.rt:75:12
 shared-slice-read-if3 : tie.Need-shared-slice-read-if3 Inv-loop μ-loop
 shared-slice-read-if3 c = search needs
 
--- src/lines.rt:76:34
 add-digits : tie.Need-add-digits Inv-loop μ-loop
 add-digits c = search needs
 
--- src/lines.rt:76:13
 digits-requires : tie.Need-digits-requires Inv-loop μ-loop
 digits-requires c κs = search needs
 
--- src/lines.rt:76:13
 returns : tie.Need-returns Inv-loop μ-loop
 returns c = search needs
 
--- src/lines.rt:79:5
 digits-requires-2 : tie.Need-digits-requires-2 Inv-loop μ-loop
 digits-requires-2 c κs = search needs
 
--- src/lines.rt:69:1
 returns-2 : tie.Need-returns-2 Inv-loop μ-loop
 returns-2 c = search needs
 

@@ -2,11 +2,6 @@ use borrow.Author.Needs.{needs}
 use Prim.Native.Nat.{_-_}
 use Rattle.plain_limits.proofs.telling.tell_custody.Statement.{statement}
 use Rattle.plain_limits.proofs.telling.tell_custody.Tie as tie
-use Rattle.plain_limits.proofs.telling.tell_custody.Reads as reads
-use Rattle.plain_limits.proofs.telling.tell_custody.Lts as lts
-use Rattle.plain_limits.proofs.telling.hex.Reads as hex-reads
-use Rattle.plain_limits.proofs.telling.text.Reads as text-reads
-use Rattle.plain_limits.proofs.telling.wide.Reads as wide-reads
 
 abbrev Inv-loop : tie.InvT-loop
 Inv-loop count custody i₀ t6 i = Unit {0}
@@ -14,55 +9,42 @@ Inv-loop count custody i₀ t6 i = Unit {0}
 abbrev μ-loop : tie.MeasureT-loop
 μ-loop count custody i₀ t6 i = 8 - i
 
--- src/telling.rt:76:10
 slice-aggregate-text : tie.Need-slice-aggregate-text Inv-loop μ-loop
 slice-aggregate-text c = search needs
 
--- src/telling.rt:76:5
 text-requires : tie.Need-text-requires Inv-loop μ-loop
 text-requires c κs = search needs
 
--- src/telling.rt:78:5
 loop-holds : tie.Need-loop-holds Inv-loop μ-loop
 loop-holds c = search needs
 
--- src/telling.rt:79:13
 slice-aggregate-hex : tie.Need-slice-aggregate-hex Inv-loop μ-loop
 slice-aggregate-hex c = search needs
 
--- src/telling.rt:79:24
 mul-wide : tie.Need-mul-wide Inv-loop μ-loop
 mul-wide c = search needs
 
--- src/telling.rt:79:24
 array-read-wide : tie.Need-array-read-wide Inv-loop μ-loop
 array-read-wide c = search needs
 
--- src/telling.rt:79:19
 wide-requires : tie.Need-wide-requires Inv-loop μ-loop
 wide-requires c κs = search needs
 
--- src/telling.rt:79:9
 hex-requires : tie.Need-hex-requires Inv-loop μ-loop
 hex-requires c κs = search needs
 
--- src/telling.rt:80:9
 add-i : tie.Need-add-i Inv-loop μ-loop
 add-i c = search needs
 
--- src/telling.rt:78:5
 loop-less : tie.Need-loop-less Inv-loop μ-loop
 loop-less c = search needs
 
--- src/telling.rt:78:5
 loop-again : tie.Need-loop-again Inv-loop μ-loop
 loop-again c = search needs
 
--- src/telling.rt:75:1
 returns : tie.Need-returns Inv-loop μ-loop
 returns c = search needs
 
--- src/telling.rt:75:1
 returns-2 : tie.Need-returns-2 Inv-loop μ-loop
 returns-2 c = search needs
 

@@ -2,11 +2,6 @@ use borrow.Author.Needs.{needs}
 use Prim.Native.Nat.{_-_}
 use Rattle.plain_limits.proofs.telling.tell_slots.Statement.{statement}
 use Rattle.plain_limits.proofs.telling.tell_slots.Tie as tie
-use Rattle.plain_limits.proofs.telling.tell_slots.Reads as reads
-use Rattle.plain_limits.proofs.telling.tell_slots.Lts as lts
-use Rattle.plain_limits.proofs.telling.decimal.Reads as decimal-reads
-use Rattle.plain_limits.proofs.telling.text.Reads as text-reads
-use Rattle.plain_limits.proofs.telling.wide.Reads as wide-reads
 
 abbrev Inv-loop : tie.InvT-loop
 Inv-loop count slots i₀ t6 i = Unit {0}
@@ -14,55 +9,42 @@ Inv-loop count slots i₀ t6 i = Unit {0}
 abbrev μ-loop : tie.MeasureT-loop
 μ-loop count slots i₀ t6 i = 8 - i
 
--- src/telling.rt:67:10
 slice-aggregate-text : tie.Need-slice-aggregate-text Inv-loop μ-loop
 slice-aggregate-text c = search needs
 
--- src/telling.rt:67:5
 text-requires : tie.Need-text-requires Inv-loop μ-loop
 text-requires c κs = search needs
 
--- src/telling.rt:69:5
 loop-holds : tie.Need-loop-holds Inv-loop μ-loop
 loop-holds c = search needs
 
--- src/telling.rt:70:17
 slice-aggregate-decimal : tie.Need-slice-aggregate-decimal Inv-loop μ-loop
 slice-aggregate-decimal c = search needs
 
--- src/telling.rt:70:28
 mul-wide : tie.Need-mul-wide Inv-loop μ-loop
 mul-wide c = search needs
 
--- src/telling.rt:70:28
 array-read-wide : tie.Need-array-read-wide Inv-loop μ-loop
 array-read-wide c = search needs
 
--- src/telling.rt:70:23
 wide-requires : tie.Need-wide-requires Inv-loop μ-loop
 wide-requires c κs = search needs
 
--- src/telling.rt:70:9
 decimal-requires : tie.Need-decimal-requires Inv-loop μ-loop
 decimal-requires c κs = search needs
 
--- src/telling.rt:71:9
 add-i : tie.Need-add-i Inv-loop μ-loop
 add-i c = search needs
 
--- src/telling.rt:69:5
 loop-less : tie.Need-loop-less Inv-loop μ-loop
 loop-less c = search needs
 
--- src/telling.rt:69:5
 loop-again : tie.Need-loop-again Inv-loop μ-loop
 loop-again c = search needs
 
--- src/telling.rt:66:1
 returns : tie.Need-returns Inv-loop μ-loop
 returns c = search needs
 
--- src/telling.rt:66:1
 returns-2 : tie.Need-returns-2 Inv-loop μ-loop
 returns-2 c = search needs
 

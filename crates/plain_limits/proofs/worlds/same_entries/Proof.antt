@@ -2,8 +2,6 @@ use borrow.Author.Needs.{needs}
 use Prim.Native.Nat.{_-_}
 use Rattle.plain_limits.proofs.worlds.same_entries.Statement.{statement}
 use Rattle.plain_limits.proofs.worlds.same_entries.Tie as tie
-use Rattle.plain_limits.proofs.worlds.same_entries.Reads as reads
-use Rattle.plain_limits.proofs.worlds.same_entries.Lts as lts
 
 abbrev Inv-loop : tie.InvT-loop
 Inv-loop a b i₀ i = Unit {0}
@@ -11,43 +9,33 @@ Inv-loop a b i₀ i = Unit {0}
 abbrev μ-loop : tie.MeasureT-loop
 μ-loop a b i₀ i = 8 - i
 
--- src/worlds.rt:77:5
 loop-holds : tie.Need-loop-holds Inv-loop μ-loop
 loop-holds c = search needs
 
--- src/worlds.rt:78:12
 mul-if1 : tie.Need-mul-if1 Inv-loop μ-loop
 mul-if1 c = search needs
 
--- src/worlds.rt:78:12
 array-read-if1 : tie.Need-array-read-if1 Inv-loop μ-loop
 array-read-if1 c = search needs
 
--- src/worlds.rt:78:20
 mul-if1-2 : tie.Need-mul-if1-2 Inv-loop μ-loop
 mul-if1-2 c = search needs
 
--- src/worlds.rt:78:20
 array-read-if1-2 : tie.Need-array-read-if1-2 Inv-loop μ-loop
 array-read-if1-2 c = search needs
 
--- src/worlds.rt:79:13
 returns : tie.Need-returns Inv-loop μ-loop
 returns c = search needs
 
--- src/worlds.rt:81:9
 add-i : tie.Need-add-i Inv-loop μ-loop
 add-i c = search needs
 
--- src/worlds.rt:77:5
 loop-less : tie.Need-loop-less Inv-loop μ-loop
 loop-less c = search needs
 
--- src/worlds.rt:77:5
 loop-again : tie.Need-loop-again Inv-loop μ-loop
 loop-again c = search needs
 
--- src/worlds.rt:75:1
 returns-2 : tie.Need-returns-2 Inv-loop μ-loop
 returns-2 c = search needs
 

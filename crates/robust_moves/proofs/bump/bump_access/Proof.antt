@@ -1,27 +1,19 @@
 use borrow.Author.Needs.{needs}
 use Rattle.robust_moves.proofs.bump.bump_access.Statement.{statement}
 use Rattle.robust_moves.proofs.bump.bump_access.Tie as tie
-use Rattle.robust_moves.proofs.bump.bump_access.Reads as reads
-use Rattle.robust_moves.proofs.bump.bump_access.Lts as lts
-use Rattle.unique_index_set_enums.proofs.Generation.next.Reads as next-reads
 
--- src/bump.rt:33:28
 enum-told : tie.Need-enum-told
 enum-told c = search needs
 
--- src/bump.rt:34:29
 enum-known-place : tie.Need-enum-known-place
 enum-known-place c = search needs
 
--- src/bump.rt:35:17
 next-requires : tie.Need-next-requires
 next-requires c κs = search needs
 
--- src/bump.rt:29:1
 returns : tie.Need-returns
 returns c = search needs
 
--- src/bump.rt:29:1
 returns-2 : tie.Need-returns-2
 returns-2 c = simp (c .next .ensures, c .before .before .place .given .1)
 

@@ -1,40 +1,28 @@
 use borrow.Author.Needs.{needs}
 use Rattle.robust_moves.proofs.bump.bump_resume.Statement.{statement}
 use Rattle.robust_moves.proofs.bump.bump_resume.Tie as tie
-use Rattle.robust_moves.proofs.bump.bump_resume.Reads as reads
-use Rattle.robust_moves.proofs.bump.bump_resume.Lts as lts
-use Rattle.robust_moves.proofs.bump.bump_looked.Reads as bump-looked-reads
-use Rattle.unique_index_set_enums.proofs.Generation.next.Reads as next-reads
 
--- src/bump.rt:55:28
 enum-told : tie.Need-enum-told
 enum-told c = search needs
 
--- src/bump.rt:55:28
 bump-looked-requires : tie.Need-bump-looked-requires
 bump-looked-requires c κs = search needs
 
--- src/bump.rt:56:29
 enum-known-place : tie.Need-enum-known-place
 enum-known-place c = search needs
 
--- src/bump.rt:58:21
 next-requires : tie.Need-next-requires
 next-requires c κs = search needs
 
--- src/bump.rt:59:17
 returns : tie.Need-returns
 returns c = simp (c .next .ensures, c .before .if1 .taken, c .before .before .before .place .given .1)
 
--- src/bump.rt:61:13
 bump-looked-requires-2 : tie.Need-bump-looked-requires-2
 bump-looked-requires-2 c κs = search needs
 
--- src/bump.rt:50:1
 returns-2 : tie.Need-returns-2
 returns-2 c = simp (c .bump-looked .ensures, c .before .enum-told .given .1)
 
--- src/bump.rt:50:1
 returns-3 : tie.Need-returns-3
 returns-3 c = simp (c .bump-looked2 .ensures, c .before .if1 .left, c .before .before .before .place .given .1)
 

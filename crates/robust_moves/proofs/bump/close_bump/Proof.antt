@@ -1,22 +1,16 @@
 use borrow.Author.Needs.{needs}
 use Rattle.robust_moves.proofs.bump.close_bump.Statement.{statement}
 use Rattle.robust_moves.proofs.bump.close_bump.Tie as tie
-use Rattle.robust_moves.proofs.bump.close_bump.Reads as reads
-use Rattle.robust_moves.proofs.bump.close_bump.Lts as lts
 
--- src/bump.rt:95:19
 enum-told : tie.Need-enum-told
 enum-told c = search needs
 
--- src/bump.rt:97:29
 enum-known-place : tie.Need-enum-known-place
 enum-known-place c = search needs
 
--- src/bump.rt:89:1
 returns : tie.Need-returns
 returns c = simp (c .enum-told .given .1)
 
--- src/bump.rt:89:1
 returns-2 : tie.Need-returns-2
 returns-2 c = simp (c .before .place .given .1)
 

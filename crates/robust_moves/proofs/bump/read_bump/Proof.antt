@@ -1,22 +1,16 @@
-use borrow.Author.Tests.{ne-eqb}
-use borrow.Author.Tests.{eq-eqb}
+use borrow.Author.Tests.{ne-eqb, eq-eqb}
 use Rattle.robust_moves.specs.Bump.{bumpRead}
 use Rattle.robust_moves.proofs.bump.read_bump.Statement.{statement}
 use Rattle.robust_moves.proofs.bump.read_bump.Tie as tie
-use Rattle.robust_moves.proofs.bump.read_bump.Reads as reads
-use Rattle.robust_moves.proofs.bump.read_bump.Lts as lts
 
--- src/bump.rt:76:9
 returns : tie.Need-returns
 unfolding bumpRead
 returns c = simp (eq-eqb _ _ (c .if1 .taken))
 
--- src/bump.rt:79:9
 returns-2 : tie.Need-returns-2
 unfolding bumpRead
 returns-2 c = simp (eq-eqb _ _ (c .if2 .taken), ne-eqb _ _ (c .before .if1 .left))
 
--- src/bump.rt:72:1
 returns-3 : tie.Need-returns-3
 unfolding bumpRead
 returns-3 c = simp (ne-eqb _ _ (c .if2 .left), ne-eqb _ _ (c .before .if1 .left))

@@ -1,35 +1,25 @@
 use borrow.Author.Needs.{needs}
 use Rattle.robust_moves.proofs.count.count_access.Statement.{statement}
 use Rattle.robust_moves.proofs.count.count_access.Tie as tie
-use Rattle.robust_moves.proofs.count.count_access.Reads as reads
-use Rattle.robust_moves.proofs.count.count_access.Lts as lts
-use Rattle.robust_moves.proofs.bump.bump_access.Reads as bump-access-reads
 
--- src/count.rt:83:29
 enum-told : tie.Need-enum-told
 enum-told c = search needs
 
--- src/count.rt:84:29
 enum-known-place : tie.Need-enum-known-place
 enum-known-place c = search needs
 
--- src/count.rt:85:32
 enum-known-place-2 : tie.Need-enum-known-place-2
 enum-known-place-2 c = search needs
 
--- src/count.rt:85:41
 bump-access-requires : tie.Need-bump-access-requires
 bump-access-requires c κs = search needs
 
--- src/count.rt:79:1
 returns : tie.Need-returns
 returns c = search needs
 
--- src/count.rt:79:1
 returns-2 : tie.Need-returns-2
 returns-2 c = simp (c .before .place .given .1)
 
--- src/count.rt:79:1
 returns-3 : tie.Need-returns-3
 returns-3 c = search needs
 

@@ -1,21 +1,15 @@
-use Rattle.robust_moves.specs.Count.{countLooked}
 use borrow.Author.Needs.{needs}
+use Rattle.robust_moves.specs.Count.{countLooked}
 use Rattle.robust_moves.proofs.count.count_looked.Statement.{statement}
 use Rattle.robust_moves.proofs.count.count_looked.Tie as tie
-use Rattle.robust_moves.proofs.count.count_looked.Reads as reads
-use Rattle.robust_moves.proofs.count.count_looked.Lts as lts
-use Rattle.unique_index_set_enums.proofs.Generation.is_locked.Reads as is-locked-reads
 
--- src/count.rt:92:8
 is-locked-requires : tie.Need-is-locked-requires
 is-locked-requires c κs = search needs
 
--- src/count.rt:93:9
 returns : tie.Need-returns
 unfolding countLooked
 returns c = simp (← c .before .is-locked .ensures, c .if1 .taken)
 
--- src/count.rt:89:1
 returns-2 : tie.Need-returns-2
 unfolding countLooked
 returns-2 c = simp (← c .before .is-locked .ensures, c .if1 .left)

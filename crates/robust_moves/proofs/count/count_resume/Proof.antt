@@ -1,55 +1,37 @@
 use borrow.Author.Needs.{needs}
 use Rattle.robust_moves.proofs.count.count_resume.Statement.{statement}
 use Rattle.robust_moves.proofs.count.count_resume.Tie as tie
-use Rattle.robust_moves.proofs.count.count_resume.Reads as reads
-use Rattle.robust_moves.proofs.count.count_resume.Lts as lts
-use Rattle.robust_moves.proofs.bump.bump_resume.Reads as bump-resume-reads
-use Rattle.robust_moves.proofs.count.count_bumped.Reads as count-bumped-reads
-use Rattle.robust_moves.proofs.count.count_looked.Reads as count-looked-reads
-use Rattle.robust_moves.proofs.count.count_on.Reads as count-on-reads
-use Rattle.robust_moves.proofs.count.one_more.Reads as one-more-reads
 
--- src/count.rt:138:17
 enum-told : tie.Need-enum-told
 enum-told c = search needs
 
--- src/count.rt:139:13
 count-looked-requires : tie.Need-count-looked-requires
 count-looked-requires c κs = search needs
 
--- src/count.rt:141:26
 enum-known-place : tie.Need-enum-known-place
 enum-known-place c = search needs
 
--- src/count.rt:143:45
 one-more-requires : tie.Need-one-more-requires
 one-more-requires c κs = search needs
 
--- src/count.rt:143:13
 count-on-requires : tie.Need-count-on-requires
 count-on-requires c κs = search needs
 
--- src/count.rt:145:26
 enum-known-place-2 : tie.Need-enum-known-place-2
 enum-known-place-2 c = search needs
 
--- src/count.rt:148:13
 bump-resume-requires : tie.Need-bump-resume-requires
 bump-resume-requires c κs = search needs
 
--- src/count.rt:145:51
 count-bumped-requires : tie.Need-count-bumped-requires
 count-bumped-requires c κs = search needs
 
--- src/count.rt:133:1
 returns : tie.Need-returns
 returns c = simp (c .count-looked .ensures, c .before .before .enum-told .given .1)
 
--- src/count.rt:133:1
 returns-2 : tie.Need-returns-2
 returns-2 c = simp (c .count-on .ensures, c .before .one-more .ensures, c .before .before .before .before .place .given .1)
 
--- src/count.rt:133:1
 returns-3 : tie.Need-returns-3
 returns-3 c = simp (c .count-bumped .ensures, c .before .bump-resume .ensures, c .before .before .before .place2 .given .1)
 

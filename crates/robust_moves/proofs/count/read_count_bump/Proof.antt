@@ -1,29 +1,21 @@
-use Rattle.robust_moves.specs.Count.{countReadBump}
 use borrow.Author.Needs.{needs}
+use Rattle.robust_moves.specs.Count.{countReadBump}
 use Rattle.robust_moves.proofs.count.read_count_bump.Statement.{statement}
 use Rattle.robust_moves.proofs.count.read_count_bump.Tie as tie
-use Rattle.robust_moves.proofs.count.read_count_bump.Reads as reads
-use Rattle.robust_moves.proofs.count.read_count_bump.Lts as lts
-use Rattle.robust_moves.proofs.bump.read_bump.Reads as read-bump-reads
 
--- src/count.rt:163:9
 read-bump-requires : tie.Need-read-bump-requires
 read-bump-requires c κs = search needs
 
--- src/count.rt:165:25
 enum-known-read : tie.Need-enum-known-read
 enum-known-read c = search needs
 
--- src/count.rt:166:30
 enum-told : tie.Need-enum-told
 enum-told c = search needs
 
--- src/count.rt:158:1
 returns : tie.Need-returns
 unfolding countReadBump
 returns c = simp (← c .before .before .before .read-bump .ensures, c .before .read .given .1)
 
--- src/count.rt:158:1
 returns-2 : tie.Need-returns-2
 unfolding countReadBump
 returns-2 c = simp (← c .before .before .read-bump .ensures, c .enum-told .given .1)

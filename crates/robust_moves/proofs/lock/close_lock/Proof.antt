@@ -1,44 +1,31 @@
 use borrow.Author.Needs.{needs}
 use Rattle.robust_moves.proofs.lock.close_lock.Statement.{statement}
 use Rattle.robust_moves.proofs.lock.close_lock.Tie as tie
-use Rattle.robust_moves.proofs.lock.close_lock.Reads as reads
-use Rattle.robust_moves.proofs.lock.close_lock.Lts as lts
-use Rattle.robust_moves.proofs.count.close_count.Reads as close-count-reads
-use Rattle.std.proofs.num.wrapping_add_u8.Reads as wrapping-add-u8-reads
 
--- src/lock.rt:131:40
 enum-told : tie.Need-enum-told
 enum-told c = search needs
 
--- src/lock.rt:131:28
 close-count-requires : tie.Need-close-count-requires
 close-count-requires c κs = search needs
 
--- src/lock.rt:132:29
 enum-known-place : tie.Need-enum-known-place
 enum-known-place c = search needs
 
--- src/lock.rt:141:26
 enum-known-place-2 : tie.Need-enum-known-place-2
 enum-known-place-2 c = search needs
 
--- src/lock.rt:142:17
 close-count-requires-2 : tie.Need-close-count-requires-2
 close-count-requires-2 c κs = search needs
 
--- src/lock.rt:145:23
 wrapping-add-u8-requires : tie.Need-wrapping-add-u8-requires
 wrapping-add-u8-requires c κs = search needs
 
--- src/lock.rt:127:1
 returns : tie.Need-returns
 returns c = search needs
 
--- src/lock.rt:127:1
 returns-2 : tie.Need-returns-2
 returns-2 c = simp (c .before .place .given .1)
 
--- src/lock.rt:127:1
 returns-3 : tie.Need-returns-3
 returns-3 c = simp (c .wrapping-add-u8 .ensures, c .before .before .close-count2 .ensures, c .before .before .before .before .place2 .given .1)
 

@@ -1,35 +1,25 @@
 use borrow.Author.Needs.{needs}
 use Rattle.robust_moves.proofs.lock.is_lock_sound.Statement.{statement}
 use Rattle.robust_moves.proofs.lock.is_lock_sound.Tie as tie
-use Rattle.robust_moves.proofs.lock.is_lock_sound.Reads as reads
-use Rattle.robust_moves.proofs.lock.is_lock_sound.Lts as lts
-use Rattle.robust_moves.proofs.count.is_count_sound.Reads as is-count-sound-reads
 
--- src/lock.rt:38:28
 enum-told : tie.Need-enum-told
 enum-told c = search needs
 
--- src/lock.rt:39:35
 enum-told-2 : tie.Need-enum-told-2
 enum-told-2 c = search needs
 
--- src/lock.rt:40:26
 enum-known-place : tie.Need-enum-known-place
 enum-known-place c = search needs
 
--- src/lock.rt:40:36
 is-count-sound-requires : tie.Need-is-count-sound-requires
 is-count-sound-requires c κs = search needs
 
--- src/lock.rt:34:1
 returns : tie.Need-returns
 returns c = search needs
 
--- src/lock.rt:34:1
 returns-2 : tie.Need-returns-2
 returns-2 c = search needs
 
--- src/lock.rt:34:1
 returns-3 : tie.Need-returns-3
 returns-3 c = simp (c .is-count-sound .ensures, c .before .before .place .given .1)
 

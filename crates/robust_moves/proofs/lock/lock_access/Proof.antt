@@ -1,35 +1,25 @@
 use borrow.Author.Needs.{needs}
 use Rattle.robust_moves.proofs.lock.lock_access.Statement.{statement}
 use Rattle.robust_moves.proofs.lock.lock_access.Tie as tie
-use Rattle.robust_moves.proofs.lock.lock_access.Reads as reads
-use Rattle.robust_moves.proofs.lock.lock_access.Lts as lts
-use Rattle.robust_moves.proofs.count.count_access.Reads as count-access-reads
 
--- src/lock.rt:48:28
 enum-told : tie.Need-enum-told
 enum-told c = search needs
 
--- src/lock.rt:49:29
 enum-known-place : tie.Need-enum-known-place
 enum-known-place c = search needs
 
--- src/lock.rt:53:26
 enum-known-place-2 : tie.Need-enum-known-place-2
 enum-known-place-2 c = search needs
 
--- src/lock.rt:53:36
 count-access-requires : tie.Need-count-access-requires
 count-access-requires c κs = search needs
 
--- src/lock.rt:44:1
 returns : tie.Need-returns
 returns c = search needs
 
--- src/lock.rt:44:1
 returns-2 : tie.Need-returns-2
 returns-2 c = simp (c .before .place .given .1)
 
--- src/lock.rt:44:1
 returns-3 : tie.Need-returns-3
 returns-3 c = search needs
 

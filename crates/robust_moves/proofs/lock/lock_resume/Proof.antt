@@ -1,49 +1,34 @@
 use borrow.Author.Needs.{needs}
 use Rattle.robust_moves.proofs.lock.lock_resume.Statement.{statement}
 use Rattle.robust_moves.proofs.lock.lock_resume.Tie as tie
-use Rattle.robust_moves.proofs.lock.lock_resume.Reads as reads
-use Rattle.robust_moves.proofs.lock.lock_resume.Lts as lts
-use Rattle.robust_moves.proofs.count.count_resume.Reads as count-resume-reads
-use Rattle.robust_moves.proofs.lock.lock_counted.Reads as lock-counted-reads
-use Rattle.robust_moves.proofs.lock.lock_looked.Reads as lock-looked-reads
 
--- src/lock.rt:85:17
 enum-told : tie.Need-enum-told
 enum-told c = search needs
 
--- src/lock.rt:86:13
 lock-looked-requires : tie.Need-lock-looked-requires
 lock-looked-requires c κs = search needs
 
--- src/lock.rt:89:16
 enum-told-2 : tie.Need-enum-told-2
 enum-told-2 c = search needs
 
--- src/lock.rt:90:17
 returns : tie.Need-returns
 returns c = simp (c .if1 .taken, c .before .enum-told2 .given .1)
 
--- src/lock.rt:94:26
 enum-known-place : tie.Need-enum-known-place
 enum-known-place c = search needs
 
--- src/lock.rt:94:49
 count-resume-requires : tie.Need-count-resume-requires
 count-resume-requires c κs = search needs
 
--- src/lock.rt:94:36
 lock-counted-requires : tie.Need-lock-counted-requires
 lock-counted-requires c κs = search needs
 
--- src/lock.rt:80:1
 returns-2 : tie.Need-returns-2
 returns-2 c = simp (c .lock-looked .ensures, c .before .before .enum-told .given .1)
 
--- src/lock.rt:80:1
 returns-3 : tie.Need-returns-3
 returns-3 c = simp (c .if1 .left, c .before .enum-told2 .given .1)
 
--- src/lock.rt:80:1
 returns-4 : tie.Need-returns-4
 returns-4 c = simp (c .lock-counted .ensures, c .before .count-resume .ensures, c .before .before .before .place .given .1)
 

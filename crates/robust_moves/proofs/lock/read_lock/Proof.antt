@@ -1,32 +1,20 @@
-use borrow.Author.Tests.{le-ltb}
-use borrow.Author.Tests.{le-leb}
-use borrow.Author.Tests.{lt-leb}
-use borrow.Author.Tests.{lt-ltb}
-use borrow.Author.Tests.{ne-eqb}
-use borrow.Author.Tests.{eq-eqb}
-use Rattle.robust_moves.specs.Lock.{lockRead}
+use borrow.Author.Tests.{le-ltb, lt-ltb, ne-eqb, eq-eqb}
 use borrow.Author.Needs.{needs}
+use Rattle.robust_moves.specs.Lock.{lockRead}
 use Rattle.robust_moves.proofs.lock.read_lock.Statement.{statement}
 use Rattle.robust_moves.proofs.lock.read_lock.Tie as tie
-use Rattle.robust_moves.proofs.lock.read_lock.Reads as reads
-use Rattle.robust_moves.proofs.lock.read_lock.Lts as lts
-use Rattle.robust_moves.proofs.lock.read_lock_count.Reads as read-lock-count-reads
 
--- src/lock.rt:119:9
 returns : tie.Need-returns
 unfolding lockRead
 returns c = simp (eq-eqb _ _ (c .if1 .taken))
 
--- src/lock.rt:122:9
 returns-2 : tie.Need-returns-2
 unfolding lockRead
 returns-2 c = simp (lt-ltb _ _ (c .if2 .taken), ne-eqb _ _ (c .before .if1 .left))
 
--- src/lock.rt:124:5
 read-lock-count-requires : tie.Need-read-lock-count-requires
 read-lock-count-requires c κs = search needs
 
--- src/lock.rt:114:1
 returns-3 : tie.Need-returns-3
 unfolding lockRead
 returns-3 c = simp (c .read-lock-count .ensures, le-ltb _ _ (c .before .if2 .left), ne-eqb _ _ (c .before .before .if1 .left))

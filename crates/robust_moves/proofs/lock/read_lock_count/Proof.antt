@@ -1,29 +1,21 @@
-use Rattle.robust_moves.specs.Lock.{lockReadCount}
 use borrow.Author.Needs.{needs}
+use Rattle.robust_moves.specs.Lock.{lockReadCount}
 use Rattle.robust_moves.proofs.lock.read_lock_count.Statement.{statement}
 use Rattle.robust_moves.proofs.lock.read_lock_count.Tie as tie
-use Rattle.robust_moves.proofs.lock.read_lock_count.Reads as reads
-use Rattle.robust_moves.proofs.lock.read_lock_count.Lts as lts
-use Rattle.robust_moves.proofs.count.read_count.Reads as read-count-reads
 
--- src/lock.rt:106:9
 read-count-requires : tie.Need-read-count-requires
 read-count-requires c κs = search needs
 
--- src/lock.rt:108:26
 enum-known-read : tie.Need-enum-known-read
 enum-known-read c = search needs
 
--- src/lock.rt:109:31
 enum-told : tie.Need-enum-told
 enum-told c = search needs
 
--- src/lock.rt:103:1
 returns : tie.Need-returns
 unfolding lockReadCount
 returns c = simp (← c .before .before .before .read-count .ensures, c .before .read .given .1)
 
--- src/lock.rt:103:1
 returns-2 : tie.Need-returns-2
 unfolding lockReadCount
 returns-2 c = simp (← c .before .before .read-count .ensures, c .enum-told .given .1)

@@ -2,10 +2,7 @@ use mathlib.Core.Path.{refl}
 use Rattle.unique_index_set_enums.specs.Robust.{isLockedAt}
 use Rattle.unique_index_set_enums.proofs.Generation.is_locked.Statement.{statement}
 use Rattle.unique_index_set_enums.proofs.Generation.is_locked.Tie as tie
-use Rattle.unique_index_set_enums.proofs.Generation.is_locked.Reads as reads
-use Rattle.unique_index_set_enums.proofs.Generation.is_locked.Lts as lts
 
--- src/lib.rt:102:5
 returns : tie.Need-returns
 unfolding isLockedAt
 returns c = refl

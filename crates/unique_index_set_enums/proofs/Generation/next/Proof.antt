@@ -1,22 +1,16 @@
-use borrow.Author.Tests.{ne-eqb}
-use borrow.Author.Tests.{eq-eqb}
-use Rattle.unique_index_set_enums.specs.Robust.{nextGeneration}
+use borrow.Author.Tests.{ne-eqb, eq-eqb}
 use borrow.Author.Needs.{needs}
+use Rattle.unique_index_set_enums.specs.Robust.{nextGeneration}
 use Rattle.unique_index_set_enums.proofs.Generation.next.Statement.{statement}
 use Rattle.unique_index_set_enums.proofs.Generation.next.Tie as tie
-use Rattle.unique_index_set_enums.proofs.Generation.next.Reads as reads
-use Rattle.unique_index_set_enums.proofs.Generation.next.Lts as lts
 
--- src/lib.rt:113:13
 returns : tie.Need-returns
 unfolding nextGeneration
 returns c = simp (eq-eqb _ _ (c .if1 .taken))
 
--- src/lib.rt:115:20
 add-t3 : tie.Need-add-t3
 add-t3 c = search needs
 
--- src/lib.rt:109:5
 returns-2 : tie.Need-returns-2
 unfolding nextGeneration
 returns-2 c = simp (ne-eqb _ _ (c .before .if1 .left))

@@ -2,10 +2,7 @@ use mathlib.Core.Path.{refl}
 use Rattle.unique_index_set_enums.specs.Robust.{isEmpty}
 use Rattle.unique_index_set_enums.proofs.OwnerId.is_empty.Statement.{statement}
 use Rattle.unique_index_set_enums.proofs.OwnerId.is_empty.Tie as tie
-use Rattle.unique_index_set_enums.proofs.OwnerId.is_empty.Reads as reads
-use Rattle.unique_index_set_enums.proofs.OwnerId.is_empty.Lts as lts
 
--- src/lib.rt:94:5
 returns : tie.Need-returns
 unfolding isEmpty
 returns c = refl

@@ -1,17 +1,12 @@
-use borrow.Author.Tests.{ne-eqb}
-use borrow.Author.Tests.{eq-eqb}
+use borrow.Author.Tests.{ne-eqb, eq-eqb}
 use Rattle.unique_index_set_enums.specs.Robust.{ownerRead}
 use Rattle.unique_index_set_enums.proofs.OwnerId.new.Statement.{statement}
 use Rattle.unique_index_set_enums.proofs.OwnerId.new.Tie as tie
-use Rattle.unique_index_set_enums.proofs.OwnerId.new.Reads as reads
-use Rattle.unique_index_set_enums.proofs.OwnerId.new.Lts as lts
 
--- src/lib.rt:89:13
 returns : tie.Need-returns
 unfolding ownerRead
 returns c = simp (eq-eqb _ _ (c .if1 .taken))
 
--- src/lib.rt:85:5
 returns-2 : tie.Need-returns-2
 unfolding ownerRead
 returns-2 c = simp (ne-eqb _ _ (c .if1 .left))
