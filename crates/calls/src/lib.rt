@@ -9,6 +9,11 @@ ghost use Rattle.calls.specs.Numbers.{callRead, answerNumber, answerValu
 ghost use Rattle.calls.specs.Order.{verdictOf};
 ghost use Rattle.calls.specs.Reports.{acceptedReport, answeredReport, refusedReport, goesOn};
 
+pub enum SetKind {
+    Plain,
+    Robust,
+}
+
 pub enum Call {
     Acquire,
     Release,

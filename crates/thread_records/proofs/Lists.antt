@@ -11,23 +11,23 @@ use Rattle.unique_index_set_enums.specs.declared.OwnerId.{OwnerId}
 use Rattle.unique_index_set_enums.specs.Kinds.{owner}
 use Rattle.unique_index_set_enums.specs.Limits.{ownersLimit}
 use Rattle.unique_index_set_enums.proofs.Choice.{choose}
-use Rattle.thread_records.specs.Lists.{among, ownersCounted}
+use Rattle.thread_records.specs.Lists.{amongFirst, ownersCounted}
 
 pub counted-most : (n : ℕ) → ownersCounted n ≤ 8
 unfolding ownersCounted
 counted-most n = choose (λ k. k ≤ 8) (ltb ownersLimit n) ownersLimit n (λ _. lit≤ tt) (λ e. ltb-false ownersLimit n e)
 
 module _ (n m : ℕ) (owners : List OwnerId) (o : OwnerId) (k : n ≡ suc m) where
-  pub among-found : getD owners m (owner 0) .0 ≡ o .0 → among n owners o ≡ true
-  unfolding among
+  pub among-found : getD owners m (owner 0) .0 ≡ o .0 → amongFirst n owners o ≡ true
+  unfolding amongFirst
   among-found e = rw k (rw (eq-eqb _ _ e))
 
-  pub among-past : (getD owners m (owner 0) .0 ≡ o .0 → ⊥) → among n owners o ≡ among m owners o
-  unfolding among
+  pub among-past : (getD owners m (owner 0) .0 ≡ o .0 → ⊥) → amongFirst n owners o ≡ amongFirst m owners o
+  unfolding amongFirst
   among-past e = rw k (rw (ne-eqb _ _ e))
 
-pub among-none : (n : ℕ) (owners : List OwnerId) (o : OwnerId) → n ≤ 0 → among n owners o ≡ false
-unfolding among
+pub among-none : (n : ℕ) (owners : List OwnerId) (o : OwnerId) → n ≤ 0 → amongFirst n owners o ≡ false
+unfolding amongFirst
 among-none n owners o h =
     let k : n ≡ zero = omega arith in
     rw k refl

@@ -1,6 +1,7 @@
 // The lent thread record: plain numbers and kinds, whatever they are, for both sets.
 use calls::Refusal;
 use calls::Report;
+use calls::SetKind;
 use calls::Tests;
 use calls::Verdict;
 use unique_index_set_enums::Generation;
@@ -11,8 +12,10 @@ use unique_index_set_enums::RECORDS_LIMIT;
 use unique_index_set_enums::RecordNumber;
 ghost use mathlib.Core.Path.{_≡_};
 ghost use Rattle.thread_records.specs.Records.{emptyList, noCounting, plainCall, robustCall, bumpCounting, idleCall, liveRecord, idleRecord, notAlive, notIdle, notCalling};
-ghost use Rattle.thread_records.specs.Lists.{ownersCounted, listed, goodList};
+ghost use Prim.Native.Nat.{_<_};
+ghost use Rattle.thread_records.specs.Lists.{ownersCounted, listed, goodList, listRefused, listTests, ownerWithin, writtenList, listOf};
 ghost use Rattle.thread_records.specs.Deaths.{deathTests, deathOf};
+ghost use Rattle.thread_records.specs.Effects.{recordJudged};
 
 // The owners that a recover goes by. Those from `count` on say nothing.
 pub struct OwnerList {
@@ -216,7 +219,8 @@ pub fn is_not_calling(thread: Record, records: usize, who: RecordNumber) -> bool
     thread.call.place == 0
 }
 
-pub struct Died {
+// What is left of a record where nothing that the records share is at stake: a death, a list.
+pub struct RecordAfter {
     pub thread: Record,
     pub report: Report,
 }
@@ -237,27 +241,114 @@ fn death_tests(thread: Record, records: usize, who: RecordNumber) -> Tests
     }
 }
 
-// A death marks the record, and nothing else changes.
-pub fn death(thread: Record, records: usize, who: RecordNumber) -> Died
-    ensures { λ r. ⌜ r ≡ deathOf thread records who ⌝ }
+// What a verdict on a record leaves of it.
+fn judge_record(verdict: Verdict, thread: Record, after: Record) -> RecordAfter
+    ensures { λ r. ⌜ r ≡ recordJudged verdict thread after ⌝ }
 {
-    let verdict = death_tests(thread, records, who).verdict();
     match verdict {
-        Verdict::Refused(why) => Died {
+        Verdict::Refused(why) => RecordAfter {
             thread: thread,
             report: Report::refused(why),
         },
-        Verdict::Accepted => {
-            let call = thread.call;
-            let list = thread.list;
-            Died {
-                thread: Record {
-                    dead: true,
-                    call: call,
-                    list: list,
-                },
-                report: Report::accepted(),
-            }
-        }
+        Verdict::Accepted => RecordAfter {
+            thread: after,
+            report: Report::accepted(),
+        },
     }
+}
+
+// A death marks the record, and nothing else changes.
+pub fn death(thread: Record, records: usize, who: RecordNumber) -> RecordAfter
+    ensures { λ r. ⌜ r ≡ deathOf thread records who ⌝ }
+{
+    let verdict = death_tests(thread, records, who).verdict();
+    let call = thread.call;
+    let list = thread.list;
+    let dead = Record {
+        dead: true,
+        call: call,
+        list: list,
+    };
+    judge_record(verdict, thread, dead)
+}
+
+// Refusal 13 of a list: a plain set takes none, a robust set none above 8 owners.
+fn is_list_refused(kind: SetKind, count: u8) -> bool
+    ensures { λ r. ⌜ r ≡ listRefused kind count ⌝ }
+{
+    match kind {
+        SetKind::Plain => true,
+        SetKind::Robust => count > OWNERS_LIMIT,
+    }
+}
+
+fn list_tests(
+    kind: SetKind,
+    thread: Record,
+    records: usize,
+    who: RecordNumber,
+    brought: OwnerList,
+) -> Tests
+    ensures { λ r. ⌜ r ≡ listTests kind thread records who brought ⌝ }
+{
+    Tests {
+        capacity_above_limit: false,
+        capacity_zero: false,
+        buffer_too_short: records > RECORDS_LIMIT,
+        record_not_ready: is_not_idle(thread, records, who),
+        record_damaged: false,
+        not_known: is_list_refused(kind, brought.count),
+        owner_is_empty: is_listed(brought, OwnerId::EMPTY),
+        index_out_of_range: false,
+        index_not_held: false,
+    }
+}
+
+// The owner at a place of the list, 0 from its count on.
+fn owner_within(brought: OwnerList, at: usize) -> OwnerId
+    requires { ⌜ at < 8 ⌝ }
+    ensures { λ r. ⌜ r ≡ ownerWithin brought at ⌝ }
+{
+    if at < (brought.count as usize) {
+        return brought.owners[at];
+    }
+    OwnerId(0)
+}
+
+fn written_list(brought: OwnerList) -> OwnerList
+    ensures { λ r. ⌜ r ≡ writtenList brought ⌝ }
+{
+    OwnerList {
+        count: brought.count,
+        owners: [
+            owner_within(brought, 0),
+            owner_within(brought, 1),
+            owner_within(brought, 2),
+            owner_within(brought, 3),
+            owner_within(brought, 4),
+            owner_within(brought, 5),
+            owner_within(brought, 6),
+            owner_within(brought, 7),
+        ],
+    }
+}
+
+// A list is written whole, in place of the one that waits, for the record's next accepted recover.
+pub fn list(
+    kind: SetKind,
+    thread: Record,
+    records: usize,
+    who: RecordNumber,
+    brought: OwnerList,
+) -> RecordAfter
+    ensures { λ r. ⌜ r ≡ listOf kind thread records who brought ⌝ }
+{
+    let verdict = list_tests(kind, thread, records, who, brought).verdict();
+    let call = thread.call;
+    let waiting = Record {
+        dead: thread.dead,
+        call: call,
+        list: written_list(brought),
+    };
+    judge_record(verdict, thread, waiting)
 }

@@ -3,12 +3,12 @@ use native.Mathlib.Omega.{arith}
 use mathlib.Core.Path.{_≡_, refl, sym, _∙_}
 use Prim.Native.Nat.{suc, _-_, _≤_}
 use Rattle.thread_records.proofs.Lists.{counted-most, among-found, among-past, among-none}
-use Rattle.thread_records.specs.Lists.{among, listed}
+use Rattle.thread_records.specs.Lists.{amongFirst, listed}
 use Rattle.thread_records.proofs.is_listed.Statement.{statement}
 use Rattle.thread_records.proofs.is_listed.Tie as tie
 
 abbrev Inv-loop : tie.InvT-loop
-Inv-loop owner list i₀ i = (i ≤ 8) × (among i (list .owners) owner ≡ listed list owner)
+Inv-loop owner list i₀ i = (i ≤ 8) × (amongFirst i (list .owners) owner ≡ listed list owner)
 
 abbrev μ-loop : tie.MeasureT-loop
 μ-loop owner list i₀ i = i

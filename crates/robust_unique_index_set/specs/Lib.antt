@@ -1,0 +1,5 @@
+pub mod Accesses
+pub mod Steps
+pub mod Starts
+pub mod Setups
+pub mod Drains
