@@ -36,16 +36,16 @@ fn start_verdict(
     cells: usize,
     asked: Asked,
     thread: Record,
-    list_damaged: bool,
+    damaged: bool,
 ) -> Verdict
-    ensures { λ r. ⌜ r ≡ startVerdict records who capacity cells asked thread list_damaged ⌝ }
+    ensures { λ r. ⌜ r ≡ startVerdict records who capacity cells asked thread damaged ⌝ }
 {
     Tests {
         capacity_above_limit: capacity > ROBUST_CAPACITY_LIMIT,
         capacity_zero: capacity == 0,
         buffer_too_short: is_too_short(records, capacity, cells),
         record_not_ready: is_not_idle(thread, records, who),
-        record_damaged: list_damaged,
+        record_damaged: damaged,
         not_known: is_not_known(asked),
         owner_is_empty: is_owner_empty(asked),
         index_out_of_range: is_out_of_range(capacity, asked),

@@ -112,9 +112,9 @@ pub(crate) fn turn_verdict(
     cells: usize,
     opened: Opened,
     thread: Record,
-    not_known: bool,
+    unknown: bool,
 ) -> Verdict
-    ensures { λ r. ⌜ r ≡ turnVerdict records who capacity cells opened thread not_known ⌝ }
+    ensures { λ r. ⌜ r ≡ turnVerdict records who capacity cells opened thread unknown ⌝ }
 {
     Tests {
         capacity_above_limit: capacity > ROBUST_CAPACITY_LIMIT,
@@ -122,7 +122,7 @@ pub(crate) fn turn_verdict(
         buffer_too_short: is_too_short(records, capacity, cells),
         record_not_ready: is_not_calling(thread, records, who),
         record_damaged: is_damaged(opened),
-        not_known: not_known,
+        not_known: unknown,
         owner_is_empty: false,
         index_out_of_range: false,
         index_not_held: false,
