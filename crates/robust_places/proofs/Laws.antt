@@ -2,6 +2,8 @@
 use Prim.Native.Nat.{ℕ, _+_, _-_, _%_, _^_, _<_}
 use mathlib.Core.Path.{_≡_, refl}
 use mathlib.Core.Bool.{Bool, true, false, cond}
+use lib.Dec.{eqb}
+use borrow.Author.Tests.{eqb-true}
 use Rattle.unique_index_set_enums.proofs.Choice.{both-true}
 use Rattle.thread_records.specs.declared.OwnerList.{OwnerList}
 use Rattle.thread_records.specs.declared.Remembered.{Remembered}
@@ -82,6 +84,10 @@ pub opened-closed : (capacity : ℕ) (p : Place) (list : OwnerList) → sound ca
 unfolding openedAt
 opened-closed capacity p list s = simp (place-read capacity p list s, s)
 
+bool-or : (b : Bool) → (b ≡ true → b ≡ false) → (b ≡ false → b ≡ false) → b ≡ false
+bool-or true f g = f refl
+bool-or false f g = refl
+
 at-or : (b : Bool) (p q : Place) → cond b (At p) Damaged ≡ At q → (b ≡ true) × (p ≡ q)
 at-or true p q e = (refl, cc)
 at-or false p q e = (cc, cc)
@@ -93,3 +99,8 @@ from-sound capacity (Known q) list p e = let s = at-or (sound capacity q list) q
 pub opened-sound : (capacity : ℕ) (c : Remembered) (list : OwnerList) (p : Place) → openedAt capacity c list ≡ At p → sound capacity p list ≡ true
 unfolding openedAt
 opened-sound capacity c list p e = from-sound capacity (placeRead capacity c) list p e
+
+-- a number that names a place is not 0
+pub read-busy : (capacity : ℕ) (c : Remembered) (p : Place) → placeRead capacity c ≡ Known p → eqb (c .place) 0 ≡ false
+unfolding placeRead
+read-busy capacity c p e = bool-or (eqb (c .place) 0) (λ q. let z : Unknown ≡ Known p = rw (eqb-true (c .place) 0 q) at e in cc) (λ q. q)

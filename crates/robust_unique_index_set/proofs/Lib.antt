@@ -1,2 +1,3 @@
 pub mod Sound
 pub mod Accepted
+pub mod Stays
