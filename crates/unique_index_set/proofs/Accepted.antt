@@ -14,9 +14,11 @@ use Rattle.unique_index_set_enums.specs.declared.ReleaseMode.{ReleaseMode}
 use Rattle.unique_index_set_enums.specs.Limits.{plainCapacityLimit, recordsLimit}
 use Rattle.unique_index_set_enums.proofs.Choice.{both-false}
 use Rattle.calls.specs.declared.Verdict.the-variants.{Accepted}
-use Rattle.calls.proofs.Order.{accepted}
+use Rattle.calls.specs.Order.{testsAtSetup, testsAtTurn}
+use Rattle.calls.proofs.Order.{AllPassed, accepted}
 use Rattle.thread_records.specs.declared.Remembered.{Remembered}
 use Rattle.thread_records.specs.declared.Record.{Record}
+use Rattle.thread_records.specs.Records.{notCalling}
 use Rattle.plain_places.specs.declared.Place.{Place}
 use Rattle.plain_places.specs.declared.Opened.{Opened}
 use Rattle.plain_places.specs.declared.Opened.the-variants.{At, Damaged}
@@ -25,11 +27,11 @@ use Rattle.plain_places.proofs.Laws.{opened-sound}
 use Rattle.plain_calls.specs.declared.asks.Asked.{Asked}
 use Rattle.plain_calls.specs.declared.asks.Asked.the-variants.{Acquire, Release, BorrowedIndices, IsLocked, NotKnown}
 use Rattle.unique_index_set.specs.Custodies.{markWithin}
-use Rattle.unique_index_set.specs.Steps.{Shared, tooShort, stepTests, stepVerdict}
+use Rattle.unique_index_set.specs.Steps.{Shared, tooShort, isDamaged, stepVerdict}
 use Rattle.plain_calls.specs.Asks.{isOutOfRange}
 use Rattle.unique_index_set.specs.Starts.{startTests, startVerdict, startJudged}
 use Rattle.plain_calls.specs.Marks.{startMark}
-use Rattle.unique_index_set.specs.Setups.{tooLarge, setupShort, setupTests, setupVerdict}
+use Rattle.unique_index_set.specs.Setups.{tooLarge, setupShort, setupVerdict}
 
 -- buffers that are long enough for a capacity within the limit
 pub record Roomy (capacity m n : ℕ) : Type 0 where
@@ -44,11 +46,17 @@ roomy records capacity slots custody a e =
     let g = both-false (leb slots capacity) f in
     record { small = omega (arith, ltb-false plainCapacityLimit capacity a); slots = leb-false slots capacity (g .0); custody = ltb-false custody capacity (g .1) }
 
+-- the tests of an accepted step, all passed
+pub step-passed : (records : ℕ) (who : RecordNumber) (capacity slots custody : ℕ) (opened : Opened) (t : Record)
+    → stepVerdict records who capacity slots custody opened t ≡ Accepted
+    → AllPassed (testsAtTurn (ltb plainCapacityLimit capacity) (eqb capacity 0) (tooShort records capacity slots custody) (notCalling t records who) (isDamaged opened) false)
+unfolding stepVerdict
+step-passed records who capacity slots custody opened t e = accepted _ e
+
 pub step-roomy : (records : ℕ) (who : RecordNumber) (capacity slots custody : ℕ) (opened : Opened) (t : Record)
     → stepVerdict records who capacity slots custody opened t ≡ Accepted → Roomy capacity slots custody
-unfolding stepVerdict
 step-roomy records who capacity slots custody opened t e =
-    let a = accepted (stepTests records who capacity slots custody opened t) e in
+    let a = step-passed records who capacity slots custody opened t e in
     roomy records capacity slots custody (a .above) (a .short)
 
 pub start-roomy : (records : ℕ) (who : RecordNumber) (capacity slots : ℕ) (custody : List ℕ) (asked : Asked) (t : Record)
@@ -61,7 +69,7 @@ start-roomy records who capacity slots custody asked t e =
 pub setup-roomy : (records capacity slots custody : ℕ) → setupVerdict records capacity slots custody ≡ Accepted → Roomy capacity slots custody
 unfolding setupVerdict tooLarge setupShort
 setup-roomy records capacity slots custody e =
-    let a = accepted (setupTests records capacity slots custody) e in
+    let a = accepted (testsAtSetup (tooLarge capacity slots) (eqb capacity 0) (setupShort records capacity custody)) e in
     let f = both-false (ltb plainCapacityLimit capacity) (a .above) in
     let g = both-false (ltb recordsLimit records) (a .short) in
     record { small = omega (arith, ltb-false plainCapacityLimit capacity (f .0)); slots = leb-false slots capacity (f .1); custody = ltb-false custody capacity (g .1) }

@@ -1,5 +1,5 @@
--- One record run alone: no step of an accepted drain is refused, an acquire ends within 5 further steps from any place, a release
--- within 4, the two looks within 1. Assumes nothing.
+-- One record run alone: an acquire ends within 5 further steps from any place, a release within 4, the two looks within 1. Assumes
+-- nothing.
 use Prim.Native.Nat.{ℕ, zero, suc, _+_, _≤_, _<_}
 use mathlib.Core.Path.{_≡_, refl, sym, subst}
 use mathlib.Core.Bool.{Bool, true, false, cond}
@@ -8,24 +8,20 @@ use native.Mathlib.Omega.{arith}
 use native.Mathlib.Nat.{le-trans}
 use Rattle.unique_index_set_enums.specs.declared.RecordNumber.{RecordNumber}
 use Rattle.unique_index_set_enums.proofs.Choice.{choose}
-use Rattle.calls.specs.declared.Refusal.{Refusal}
-use Rattle.calls.specs.declared.Progress.the-variants as progress
-use Rattle.calls.specs.declared.Verdict.{Verdict}
-use Rattle.calls.specs.declared.Verdict.the-variants.{Accepted, Refused}
+use Rattle.calls.specs.declared.Verdict.the-variants.{Accepted}
 use Rattle.calls.specs.Reports.{goesOn}
 use Rattle.calls.specs.Runs.{Run, runFrom}
 use Rattle.thread_records.specs.declared.Record.{Record}
-use Rattle.thread_records.specs.Effects.{Effect, unchanged}
-use Rattle.thread_records.specs.Drains.{going, begun, drained}
-use Rattle.thread_records.proofs.Effects.{Unchanged, Harmless, taken, taken-harmless, unchanged-harmless}
+use Rattle.thread_records.specs.Effects.{Effect}
+use Rattle.thread_records.specs.Drains.{going, begun}
 use Rattle.plain_places.specs.declared.Place.{Place}
 use Rattle.plain_places.specs.declared.Place.the-variants.{AcquireLook, AcquireRead, AcquireExchange, AcquireWrite, ReleaseLook, ReleaseWrite, ReleaseExchange, BorrowedLook, LockedLook}
 use Rattle.plain_calls.specs.declared.resumes.Next.the-variants.{Going, Answered}
 use Rattle.unique_index_set.specs.Accesses.{accessAt, wordAfter}
 use Rattle.unique_index_set.specs.Steps.{Shared, nextAt, sharedAfter, stepJudged, stepOf}
 use Rattle.unique_index_set.specs.Drains.{again, drainOf}
-use Rattle.unique_index_set.proofs.Stays.{Ready, further, nearer, going-sound, ready-sound, accepted-ready}
-use Rattle.unique_index_set.proofs.Refused.{after, ready-or, verdict-or}
+use Rattle.unique_index_set.proofs.Stays.{Ready, further, nearer, going-sound, ready-sound}
+use Rattle.unique_index_set.proofs.Refused.{after, ready-or}
 
 either : (b : Bool) (x y : ℕ) (E : ℕ → Type 0) → E x → E y → E (cond b x y)
 either b x y E p q = choose E b x y (λ _. p) (λ _. q)
@@ -90,26 +86,10 @@ run-over records who (suc b) n e p r h =
     let f = further-some p (s .set .head) in
     subst (λ x. Over (n + k) (turn records who b n x)) (sym i) (record { answered = refl; within = omega (arith, f) }))
 
-pub run-taken : (records : ℕ) (who : RecordNumber) (b n : ℕ) (e : Effect Shared) (p : Place) → Ready records who (e .shared) (e .thread) p
-    → taken (e .report .progress) ≡ true → taken (runFrom (again records who) going b n e .left .report .progress) ≡ true
-unfolding runFrom
-run-taken records who zero n e p r h = h
-run-taken records who (suc b) n e p r h =
-    let s = e .shared in
-    let t = e .thread in
-    ready-or records who s t p r (taken (turn records who b n (stepOf records who s t) .left .report .progress) ≡ true)
-    (λ q g i z. subst (λ x. taken (turn records who b n x .left .report .progress) ≡ true) (sym i) (run-taken records who b (n + 1) (after (Going q) who p s t) q z refl))
-    (λ a i. subst (λ x. taken (turn records who b n x .left .report .progress) ≡ true) (sym i) refl)
-
 drain-accepted : (records : ℕ) (who : RecordNumber) (b : ℕ) (s : Shared) (t : Record) → stepJudged records who s t ≡ Accepted
     → drainOf records who b s t ≡ runFrom (again records who) going b 0 (begun s t)
 unfolding drainOf
 drain-accepted records who b s t e = rw e refl
-
-drain-refused : (records : ℕ) (who : RecordNumber) (b : ℕ) (s : Shared) (t : Record) (why : Refusal) → stepJudged records who s t ≡ Refused why
-    → drainOf records who b s t ≡ record { left = unchanged s t why; steps = 0 }
-unfolding drainOf
-drain-refused records who b s t why e = rw e refl
 
 -- a drain that is not refused ends within its call's bound, where the budget has that many steps
 pub drain-ends : (records : ℕ) (who : RecordNumber) (b : ℕ) (s : Shared) (t : Record) (p : Place) → Ready records who s t p → bound p ≤ b
@@ -118,17 +98,3 @@ drain-ends records who b s t p r h =
     let f = further-bound p (s .set .head) in
     let o = run-over records who b 0 (begun s t) p r (le-trans f h) in
     subst (Over (bound p)) (sym (drain-accepted records who b s t (r .judged))) (record { answered = o .answered; within = omega (arith, o .within, f) })
-
--- a refused drain changes nothing and takes no step, whatever the budget
-pub record DrainHarmless (s : Shared) (t : Record) (u : Run (Effect Shared)) : Type 0 where
-  pub harmless : Harmless s t (u .left)
-  pub none : (why : Refusal) → u .left .report .progress ≡ progress.Refused why → u .steps ≡ 0
-
-pub drain-harmless : (records : ℕ) (who : RecordNumber) (b : ℕ) (s : Shared) (t : Record) → DrainHarmless s t (drainOf records who b s t)
-drain-harmless records who b s t =
-    verdict-or (stepJudged records who s t) (DrainHarmless s t (drainOf records who b s t))
-    (λ why e. subst (DrainHarmless s t) (sym (drain-refused records who b s t why e)) (record { harmless = unchanged-harmless s t why; none = λ w q. refl }))
-    (λ e. accepted-ready records who s t e (DrainHarmless s t (drainOf records who b s t)) (λ p r.
-    let k = run-taken records who b 0 (begun s t) p r refl in
-    subst (DrainHarmless s t) (sym (drain-accepted records who b s t e))
-    (record { harmless = taken-harmless s t _ k; none = λ why q. (let z : taken (progress.Refused why) ≡ true = rw q at k in cc) })))

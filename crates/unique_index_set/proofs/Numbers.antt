@@ -3,21 +3,25 @@ use Prim.Native.Nat.{ℕ}
 use mathlib.Core.Path.{_≡_, refl}
 use mathlib.Core.Bool.{Bool, true, false, cond}
 use mathlib.Core.List.{List, [], _∷_}
-use lib.Dec.{leb, eqb}
+use lib.Dec.{ltb, leb, eqb}
 use lib.ListN.{length}
 use Rattle.unique_index_set_enums.specs.declared.Index.{Index}
 use Rattle.unique_index_set_enums.specs.declared.RecordNumber.{RecordNumber}
 use Rattle.unique_index_set_enums.specs.declared.ReleaseMode.{ReleaseMode}
 use Rattle.unique_index_set_enums.specs.declared.UniqueIndexCreationError.the-variants.{ProvidedCapacityGreaterThanMaxCapacity, ProvidedCapacityIsZero}
-use Rattle.unique_index_set_enums.specs.Limits.{lockAcquire}
+use Rattle.unique_index_set_enums.specs.Limits.{lockAcquire, plainCapacityLimit}
 use Rattle.unique_index_set_enums.proofs.Choice.{choose}
 use Rattle.calls.specs.declared.Refusal.{Refusal}
 use Rattle.calls.specs.declared.Refusal.the-variants as refusal
 use Rattle.calls.specs.declared.Refusal.the-variants.{Capacity, BufferTooShort, RecordNotReady, RecordDamaged, NotKnown, OwnerIsEmpty, IndexOutOfRange, IndexNotHeld}
 use Rattle.calls.specs.declared.Request.{Request}
+use Rattle.calls.specs.declared.Tests.{Tests}
 use Rattle.calls.specs.Numbers.{answerNumber}
+use Rattle.calls.specs.Order.{testsAtSetup, testsAtTurn}
 use Rattle.thread_records.specs.declared.Record.{Record}
-use Rattle.thread_records.proofs.Numbers.{among, RefusedAmong, FailedAmong, unchanged-among, taken-among, judged-among}
+use Rattle.thread_records.proofs.Numbers.{among, RefusedAmong, FailedAmong, unchanged-among, taken-among, judged-among, setupNumbers, setup-failed, stepNumbers, step-failed}
+use Rattle.thread_records.specs.Records.{notCalling}
+use Rattle.thread_records.proofs.Drains.{drain-among}
 use Rattle.head_details.specs.Word.{headOf, borrowedOf}
 use Rattle.plain_places.specs.declared.Place.{Place}
 use Rattle.plain_places.specs.declared.Place.the-variants.{AcquireLook, AcquireRead, AcquireExchange, AcquireWrite, ReleaseLook, ReleaseWrite, ReleaseExchange, BorrowedLook, LockedLook}
@@ -30,32 +34,18 @@ use Rattle.plain_calls.specs.declared.resumes.Next.the-variants.{Going, Answere
 use Rattle.plain_calls.specs.declared.asks.Asked.{Asked}
 use Rattle.plain_calls.specs.declared.asks.Asked.the-variants as asked
 use Rattle.plain_calls.specs.Resumes.{acquireLooked, releaseLooked, resumedAt}
-use Rattle.unique_index_set.specs.Steps.{Shared, advanced, nextAt, openedIn, stepTests, stepVerdict, stepJudged, steppedFrom, stepOf}
+use Rattle.unique_index_set.specs.Steps.{Shared, advanced, nextAt, tooShort, isDamaged, openedIn, stepVerdict, stepJudged, steppedFrom, stepOf}
 use Rattle.plain_calls.specs.Asks.{askedOf}
 use Rattle.unique_index_set.specs.Starts.{startTests, startVerdict, startJudged, startedFrom, startOf}
-use Rattle.unique_index_set.specs.Setups.{setupTests, setupVerdict, setupJudged, setFresh, setupOf}
-use Rattle.unique_index_set.proofs.Refused.{next-taken}
-
--- a setup is refused with 3, 4 or 10
-abbrev pub setupNumbers : List ℕ
-setupNumbers = 3 ∷ 4 ∷ 10 ∷ []
-
-setup-failed : (records capacity slots custody : ℕ) → FailedAmong setupNumbers (setupTests records capacity slots custody)
-setup-failed records capacity slots custody (Capacity ProvidedCapacityGreaterThanMaxCapacity) e = refl
-setup-failed records capacity slots custody (Capacity ProvidedCapacityIsZero) e = refl
-setup-failed records capacity slots custody BufferTooShort e = refl
-setup-failed records capacity slots custody RecordNotReady e = e
-setup-failed records capacity slots custody RecordDamaged e = e
-setup-failed records capacity slots custody NotKnown e = e
-setup-failed records capacity slots custody OwnerIsEmpty e = e
-setup-failed records capacity slots custody IndexOutOfRange e = e
-setup-failed records capacity slots custody IndexNotHeld e = e
+use Rattle.unique_index_set.specs.Setups.{tooLarge, setupShort, setupVerdict, setupJudged, setFresh, setupOf}
+use Rattle.unique_index_set.specs.Drains.{again, drainOf}
+use Rattle.unique_index_set.proofs.Refused.{next-taken, Opens, step-keeps}
 
 pub setup-numbers : (records capacity : ℕ) (s : Shared) (t : Record) → RefusedAmong setupNumbers (setupOf records capacity s t)
 unfolding setupOf setupVerdict
 setup-numbers records capacity s t =
-    judged-among setupNumbers (setupJudged records capacity s) (setupTests records capacity (length (s .slots)) (length (s .custody))) s t (setFresh capacity s) refl
-    (setup-failed records capacity (length (s .slots)) (length (s .custody))) (taken-among setupNumbers (setFresh capacity s) refl)
+    judged-among setupNumbers (setupJudged records capacity s) (testsAtSetup (tooLarge capacity (length (s .slots))) (eqb capacity 0) (setupShort records capacity (length (s .custody)))) s t
+    (setFresh capacity s) refl (setup-failed _ _ _) (taken-among setupNumbers (setFresh capacity s) refl)
 
 -- a start with 3, 4, 10, 9, 13, 7 or 8
 abbrev pub startNumbers : List ℕ
@@ -86,32 +76,28 @@ start-numbers records who request s t =
     (startTests records who (s .set .capacity) (length (s .slots)) (s .custody) (askedOf request) t) s t (startedFrom (askedOf request) who s t) refl
     (start-failed records who (s .set .capacity) (length (s .slots)) (s .custody) (askedOf request) t) (started-among (askedOf request) who s t)
 
--- a step with 3, 4, 10, 9 or 11
-abbrev pub stepNumbers : List ℕ
-stepNumbers = 3 ∷ 4 ∷ 10 ∷ 9 ∷ 11 ∷ []
-
-step-failed : (records : ℕ) (who : RecordNumber) (capacity slots custody : ℕ) (o : Opened) (t : Record) → FailedAmong stepNumbers (stepTests records who capacity slots custody o t)
-step-failed records who capacity slots custody o t (Capacity ProvidedCapacityGreaterThanMaxCapacity) e = refl
-step-failed records who capacity slots custody o t (Capacity ProvidedCapacityIsZero) e = refl
-step-failed records who capacity slots custody o t BufferTooShort e = refl
-step-failed records who capacity slots custody o t RecordNotReady e = refl
-step-failed records who capacity slots custody o t RecordDamaged e = refl
-step-failed records who capacity slots custody o t NotKnown e = e
-step-failed records who capacity slots custody o t OwnerIsEmpty e = e
-step-failed records who capacity slots custody o t IndexOutOfRange e = e
-step-failed records who capacity slots custody o t IndexNotHeld e = e
-
 stepped-among : (o : Opened) (who : RecordNumber) (s : Shared) (t : Record) → RefusedAmong stepNumbers (steppedFrom o who s t)
 unfolding advanced
 stepped-among (At p) who s t = taken-among stepNumbers (advanced who p (t .list) s) (next-taken (nextAt p s))
 stepped-among Damaged who s t = unchanged-among stepNumbers s t RecordDamaged refl
 
+-- the tests of a step or a drain
+abbrev turnTests : ℕ → RecordNumber → Shared → Record → Tests
+turnTests records who s t =
+    testsAtTurn (ltb plainCapacityLimit (s .set .capacity)) (eqb (s .set .capacity) 0) (tooShort records (s .set .capacity) (length (s .slots)) (length (s .custody))) (notCalling t records who)
+    (isDamaged (openedIn s t)) false
+
 pub step-numbers : (records : ℕ) (who : RecordNumber) (s : Shared) (t : Record) → RefusedAmong stepNumbers (stepOf records who s t)
 unfolding stepOf stepVerdict
 step-numbers records who s t =
-    judged-among stepNumbers (stepJudged records who s t)
-    (stepTests records who (s .set .capacity) (length (s .slots)) (length (s .custody)) (openedIn s t) t) s t (steppedFrom (openedIn s t) who s t) refl
-    (step-failed records who (s .set .capacity) (length (s .slots)) (length (s .custody)) (openedIn s t) t) (stepped-among (openedIn s t) who s t)
+    judged-among stepNumbers (stepJudged records who s t) (turnTests records who s t) s t (steppedFrom (openedIn s t) who s t) refl (step-failed _ _ _ _ _) (stepped-among (openedIn s t) who s t)
+
+-- a drain is refused as a step is: 13 does not arise
+pub drain-numbers : (records : ℕ) (who : RecordNumber) (b : ℕ) (s : Shared) (t : Record) → RefusedAmong stepNumbers (drainOf records who b s t .left)
+unfolding drainOf stepVerdict
+drain-numbers records who b s t =
+    drain-among (again records who) (λ e. Opens records who (e .shared) (e .thread)) (step-keeps records who) b s t stepNumbers (turnTests records who s t) (stepJudged records who s t) refl
+    (step-failed _ _ _ _ _) (λ e. e)
 
 -- an acquire answers 0, 1 or 2, a release 0 or 14, the two looks 0
 abbrev pub answerNumbers : Place → List ℕ

@@ -1,5 +1,5 @@
--- What is refused changes nothing; what is accepted leaves a record that opens again or is idle; and one contract allows one result.
--- Assumes nothing.
+-- What is refused changes nothing; a step or start that goes on leaves a record whose next step is accepted; an answer leaves the idle
+-- record beside its list. Assumes nothing.
 use Prim.Native.Nat.{ℕ, zero, suc, _+_}
 use mathlib.Core.Path.{_≡_, refl, sym, ap, subst, _∙_}
 use mathlib.Core.Bool.{Bool, true, false, cond}
@@ -21,7 +21,9 @@ use Rattle.thread_records.specs.declared.Record.{Record}
 use Rattle.thread_records.specs.Records.{liveRecord, idleRecord}
 use Rattle.thread_records.specs.Effects.{Effect, unchanged, judged}
 use Rattle.thread_records.specs.Drains.{going, begun, drained}
-use Rattle.thread_records.proofs.Effects.{Unchanged, Harmless, taken, taken-harmless, unchanged-harmless, judged-harmless}
+use Rattle.thread_records.proofs.Effects.{Harmless, taken, taken-harmless, unchanged-harmless, judged-harmless}
+use Rattle.thread_records.proofs.Leaves.{Leaves, going-leaves, answered-leaves, judged-leaves}
+use Rattle.thread_records.proofs.Drains.{Keeps, keeps, DrainHarmless, drain-harmless}
 use Rattle.plain_places.specs.declared.Place.{Place}
 use Rattle.plain_places.specs.declared.Place.the-variants.{AcquireLook, ReleaseLook, BorrowedLook, LockedLook}
 use Rattle.plain_places.specs.declared.Opened.{Opened}
@@ -39,11 +41,11 @@ use Rattle.unique_index_set.specs.declared.drains.Drained.{Drained}
 use Rattle.unique_index_set.specs.Custodies.{marked}
 use Rattle.unique_index_set.specs.Steps.{Shared, shared, leaves, threadAfter, reportAfter, nextAt, sharedAfter, advanced, openedIn, stepJudged, steppedFrom, stepOf}
 use Rattle.plain_calls.specs.Asks.{askedOf}
-use Rattle.unique_index_set.specs.Starts.{startJudged, startedFrom, startOf}
+use Rattle.unique_index_set.specs.Starts.{startJudged, enteredAt, startedFrom, startOf}
 use Rattle.unique_index_set.specs.Setups.{setFresh, setupJudged, setupOf}
 use Rattle.unique_index_set.specs.Drains.{again, drainOf, runLeaves}
 use Rattle.unique_index_set.proofs.Accepted.{release-in}
-use Rattle.unique_index_set.proofs.Stays.{Ready, Lent, stepped, accepted-ready, start-lent, ready, stays}
+use Rattle.unique_index_set.proofs.Stays.{Ready, stepped, accepted-ready, Serves, start-serves, marked-serves, ready, stays}
 
 pub next-taken : (n : Next) → taken (reportAfter n .progress) ≡ true
 next-taken (Going p) = refl
@@ -77,10 +79,6 @@ next-or : (n : Next) (E : Type 0) → ((q : Place) → n ≡ Going q → E) → 
 next-or (Going q) E f g = f q refl
 next-or (Answered a) E f g = g a refl
 
-pub verdict-or : (v : Verdict) (E : Type 0) → ((why : Refusal) → v ≡ Refused why → E) → (v ≡ Accepted → E) → E
-verdict-or (Refused why) E f g = f why refl
-verdict-or Accepted E f g = g refl
-
 -- where a ready record's step goes on, and where it answers
 abbrev pub after : Next → RecordNumber → Place → Shared → Record → Effect Shared
 after n who p s t = record { shared = sharedAfter who p s; thread = threadAfter n (t .list); report = reportAfter n }
@@ -100,66 +98,64 @@ ready-or records who s t p r E f g =
     (λ q n. f q n (stepped-next records who s t p (Going q) r n) (stays records who s t p q r n))
     (λ a n. g a (stepped-next records who s t p (Answered a) r n))
 
--- what an accepted step leaves of its record: it opens again, or it is idle beside its list
-pub record Opens (s : Shared) (t : Record) : Type 0 where
-  pub place : Place
-  pub at : openedIn s t ≡ At place
+-- the record's next step is accepted: so it opens
+abbrev pub Opens : ℕ → RecordNumber → Shared → Record → Type 0
+Opens records who s t = stepJudged records who s t ≡ Accepted
 
-pub record StepLeaves (t : Record) (e : Effect Shared) : Type 0 where
-  pub opens : e .report .progress ≡ progress.Accepted → Opens (e .shared) (e .thread)
-  pub idle : (a : Answer) → e .report .progress ≡ progress.Answered a → e .thread ≡ idleRecord (t .list)
+-- no answer of a plain set touches the list
+abbrev pub sameList : Answer → OwnerList → OwnerList
+sameList a list = list
 
-goes-on-leaves : (records : ℕ) (who : RecordNumber) (s : Shared) (t : Record) (p q : Place) → Ready records who (sharedAfter who p s) (liveRecord (closedAt q) (t .list)) q
-    → StepLeaves t (after (Going q) who p s t)
-goes-on-leaves records who s t p q r = record { opens = λ _. record { place = q; at = r .opened }; idle = λ a e. cc }
+abbrev pub StepLeaves : ℕ → RecordNumber → Record → Effect Shared → Type 0
+StepLeaves records who t e = Leaves (Opens records who) sameList t e
 
-answers-leaves : (who : RecordNumber) (s : Shared) (t : Record) (p : Place) (a : Answer) → StepLeaves t (after (Answered a) who p s t)
-answers-leaves who s t p a = record { opens = λ e. (let z : _≡_ {A = ℕ} 0 1 = cc in absurd (omega arith)); idle = λ b e. refl }
+ready-leaves : (records : ℕ) (who : RecordNumber) (s : Shared) (t : Record) (p : Place) → Ready records who s t p → StepLeaves records who t (stepOf records who s t)
+ready-leaves records who s t p r =
+    ready-or records who s t p r (StepLeaves records who t (stepOf records who s t))
+    (λ q n i k. subst (StepLeaves records who t) (sym i) (going-leaves (Opens records who) sameList t (after (Going q) who p s t) refl (k .judged)))
+    (λ a i. subst (StepLeaves records who t) (sym i) (answered-leaves (Opens records who) sameList t (after (Answered a) who p s t) a refl refl))
 
-refused-leaves : (s : Shared) (t : Record) (why : Refusal) → StepLeaves t (unchanged s t why)
-refused-leaves s t why = record { opens = λ e. (let z : _≡_ {A = ℕ} 0 1 = cc in absurd (omega arith)); idle = λ a e. cc }
+opened-leaves : (records : ℕ) (who : RecordNumber) (s : Shared) (t : Record) (p : Place) → Ready records who s t p → StepLeaves records who t (steppedFrom (openedIn s t) who s t)
+opened-leaves records who s t p r = rw (r .opened) (subst (StepLeaves records who t) (stepped records who s t p r) (ready-leaves records who s t p r))
 
-refused-is : (records : ℕ) (who : RecordNumber) (s : Shared) (t : Record) (why : Refusal) → stepJudged records who s t ≡ Refused why → stepOf records who s t ≡ unchanged s t why
+pub step-leaves : (records : ℕ) (who : RecordNumber) (s : Shared) (t : Record) → StepLeaves records who t (stepOf records who s t)
 unfolding stepOf
-refused-is records who s t why e = rw e refl
-
-pub step-leaves : (records : ℕ) (who : RecordNumber) (s : Shared) (t : Record) → StepLeaves t (stepOf records who s t)
 step-leaves records who s t =
-    verdict-or (stepJudged records who s t) (StepLeaves t (stepOf records who s t))
-    (λ why e. subst (StepLeaves t) (sym (refused-is records who s t why e)) (refused-leaves s t why))
-    (λ e. accepted-ready records who s t e (StepLeaves t (stepOf records who s t)) (λ p r.
-    ready-or records who s t p r (StepLeaves t (stepOf records who s t))
-    (λ q n i k. subst (StepLeaves t) (sym i) (goes-on-leaves records who s t p q k))
-    (λ a i. subst (StepLeaves t) (sym i) (answers-leaves who s t p a))))
+    judged-leaves (Opens records who) sameList t (stepJudged records who s t) s (steppedFrom (openedIn s t) who s t)
+    (λ e. accepted-ready records who s t e (StepLeaves records who t (steppedFrom (openedIn s t) who s t)) (λ p r. opened-leaves records who s t p r))
 
-start-refused : (records : ℕ) (who : RecordNumber) (request : Request) (s : Shared) (t : Record) (why : Refusal) → startJudged records who (askedOf request) s t ≡ Refused why
-    → startOf records who request s t ≡ unchanged s t why
+-- an accepted start leaves a record that opens at the call's first place; what a release's start marks keeps the buffers' lengths
+entry-leaves : (records : ℕ) (who : RecordNumber) (s : Shared) (t : Record) (p : Place) (m : Mark) → Serves records who s → sound (s .set .capacity) p ≡ true
+    → StepLeaves records who t (leaves (enteredAt p (s .set) t) (s .slots) (marked m (s .custody)))
+entry-leaves records who s t p m l e =
+    going-leaves (Opens records who) sameList t (leaves (enteredAt p (s .set) t) (s .slots) (marked m (s .custody))) refl
+    (ready records who (shared (s .set) (s .slots) (marked m (s .custody))) p (t .list) (marked-serves records who s m l) e .judged)
+
+started-leaves : (records : ℕ) (who : RecordNumber) (a : Asked) (s : Shared) (t : Record) → startJudged records who a s t ≡ Accepted → StepLeaves records who t (startedFrom a who s t)
+started-leaves records who Acquire s t e = entry-leaves records who s t AcquireLook Nothing (start-serves records who Acquire s t e) refl
+started-leaves records who (Release i m) s t e =
+    entry-leaves records who s t (ReleaseLook i m) (As i (Giving who who)) (start-serves records who (Release i m) s t e) (release-in records who i m s t e)
+started-leaves records who BorrowedIndices s t e = entry-leaves records who s t BorrowedLook Nothing (start-serves records who BorrowedIndices s t e) refl
+started-leaves records who IsLocked s t e = entry-leaves records who s t LockedLook Nothing (start-serves records who IsLocked s t e) refl
+started-leaves records who NotKnown s t e = record { opens = λ q. cc; idle = λ a q. cc }
+
+pub start-leaves : (records : ℕ) (who : RecordNumber) (request : Request) (s : Shared) (t : Record) → StepLeaves records who t (startOf records who request s t)
 unfolding startOf
-start-refused records who request s t why e = rw e refl
+start-leaves records who request s t =
+    judged-leaves (Opens records who) sameList t (startJudged records who (askedOf request) s t) s (startedFrom (askedOf request) who s t)
+    (λ e. started-leaves records who (askedOf request) s t e)
 
-start-accepted : (records : ℕ) (who : RecordNumber) (request : Request) (s : Shared) (t : Record) → startJudged records who (askedOf request) s t ≡ Accepted
-    → startOf records who request s t ≡ startedFrom (askedOf request) who s t
-unfolding startOf
-start-accepted records who request s t e = rw e refl
+step-taken : (records : ℕ) (who : RecordNumber) (s : Shared) (t : Record) → stepJudged records who s t ≡ Accepted → taken (stepOf records who s t .report .progress) ≡ true
+unfolding advanced
+step-taken records who s t e =
+    accepted-ready records who s t e (taken (stepOf records who s t .report .progress) ≡ true)
+    (λ p r. subst (λ (x : Effect Shared). taken (x .report .progress) ≡ true) (sym (stepped records who s t p r)) (next-taken (nextAt p s)))
 
--- an accepted start leaves a record that opens at the call's first place
-entry-opens : (records : ℕ) (who : RecordNumber) (s : Shared) (p : Place) (m : Mark) (list : OwnerList) → Lent records who s → sound (s .set .capacity) p ≡ true
-    → Opens (shared (s .set) (s .slots) (marked m (s .custody))) (liveRecord (closedAt p) list)
-entry-opens records who s p m list l e = record { place = p; at = ready records who s p list l e .opened }
+pub step-keeps : (records : ℕ) (who : RecordNumber) → Keeps (again records who) (λ e. Opens records who (e .shared) (e .thread))
+step-keeps records who = keeps (stepJudged records who) (stepOf records who) sameList (step-leaves records who) (step-taken records who)
 
-started-opens : (records : ℕ) (who : RecordNumber) (a : Asked) (s : Shared) (t : Record) → startJudged records who a s t ≡ Accepted
-    → startedFrom a who s t .report .progress ≡ progress.Accepted → Opens (startedFrom a who s t .shared) (startedFrom a who s t .thread)
-started-opens records who Acquire s t e p = entry-opens records who s AcquireLook Nothing (t .list) (start-lent records who Acquire s t e) refl
-started-opens records who (Release i m) s t e p =
-    entry-opens records who s (ReleaseLook i m) (As i (Giving who who)) (t .list) (start-lent records who (Release i m) s t e) (release-in records who i m s t e)
-started-opens records who BorrowedIndices s t e p = entry-opens records who s BorrowedLook Nothing (t .list) (start-lent records who BorrowedIndices s t e) refl
-started-opens records who IsLocked s t e p = entry-opens records who s LockedLook Nothing (t .list) (start-lent records who IsLocked s t e) refl
-started-opens records who NotKnown s t e p = let z : _≡_ {A = ℕ} 0 1 = cc in absurd (omega arith)
-
-pub start-opens : (records : ℕ) (who : RecordNumber) (request : Request) (s : Shared) (t : Record) → startOf records who request s t .report .progress ≡ progress.Accepted
-    → Opens (startOf records who request s t .shared) (startOf records who request s t .thread)
-start-opens records who request s t =
-    let E : Effect Shared → Type 0 = λ e. (e .report .progress ≡ progress.Accepted → Opens (e .shared) (e .thread)) in
-    verdict-or (startJudged records who (askedOf request) s t) (E (startOf records who request s t))
-    (λ why e. subst E (sym (start-refused records who request s t why e)) (λ p. (let z : _≡_ {A = ℕ} 0 1 = cc in absurd (omega arith))))
-    (λ e. subst E (sym (start-accepted records who request s t e)) (started-opens records who (askedOf request) s t e))
+-- a refused drain changes nothing and takes no step, whatever the budget
+pub drain-unharmed : (records : ℕ) (who : RecordNumber) (b : ℕ) (s : Shared) (t : Record) → DrainHarmless s t (drainOf records who b s t)
+unfolding drainOf
+drain-unharmed records who b s t =
+    drain-harmless (again records who) (λ e. Opens records who (e .shared) (e .thread)) (step-keeps records who) b s t (stepJudged records who s t) (λ e. e)

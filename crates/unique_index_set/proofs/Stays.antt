@@ -12,13 +12,14 @@ use Rattle.unique_index_set_enums.specs.declared.RecordNumber.{RecordNumber}
 use Rattle.unique_index_set_enums.specs.declared.ReleaseMode.{ReleaseMode}
 use Rattle.unique_index_set_enums.specs.Kinds.{index}
 use Rattle.unique_index_set_enums.specs.Limits.{lockAcquire, plainCapacityLimit}
-use Rattle.unique_index_set_enums.proofs.Choice.{choose, both-true, both-false}
+use Rattle.unique_index_set_enums.proofs.Choice.{choose, both-true}
 use Rattle.calls.specs.declared.Answer.{Answer}
 use Rattle.calls.specs.declared.Verdict.the-variants.{Accepted}
-use Rattle.calls.proofs.Order.{accepted, all-accepted}
+use Rattle.calls.proofs.Order.{accepted}
 use Rattle.thread_records.specs.declared.OwnerList.{OwnerList}
 use Rattle.thread_records.specs.declared.Record.{Record}
-use Rattle.thread_records.specs.Records.{liveRecord, notAlive, notIdle, notCalling}
+use Rattle.thread_records.specs.Records.{liveRecord}
+use Rattle.thread_records.proofs.Lent.{Lent, turn-lent, start-lent, lent-accepted}
 use Rattle.thread_records.specs.Effects.{Effect}
 use Rattle.head_details.specs.Word.{headOf, borrowedOf}
 use Rattle.plain_places.specs.declared.Place.{Place}
@@ -36,10 +37,11 @@ use Rattle.plain_calls.specs.declared.marks.Mark.the-variants.{Nothing, As}
 use Rattle.unique_index_set.specs.Accesses.{accessAt, wordAfter, slotsAfter}
 use Rattle.plain_calls.specs.Resumes.{acquireLooked, releaseLooked}
 use Rattle.unique_index_set.specs.Custodies.{marked}
-use Rattle.unique_index_set.specs.Steps.{Shared, nextAt, sharedAfter, advanced, tooShort, isDamaged, stepTests, stepVerdict, openedIn, stepJudged, stepOf}
+use Rattle.unique_index_set.specs.Steps.{Shared, shared, nextAt, sharedAfter, advanced, tooShort, isDamaged, stepVerdict, openedIn, stepJudged, stepOf}
 use Rattle.plain_calls.specs.declared.asks.Asked.{Asked}
 use Rattle.unique_index_set.specs.Starts.{startTests, startVerdict, startJudged}
 use Rattle.unique_index_set.proofs.Sound.{may-acquire-head}
+use Rattle.unique_index_set.proofs.Accepted.{step-passed}
 
 -- how many steps more a record alone takes at most, from a place, where the head word is w
 abbrev pub further : Place → ℕ → ℕ
@@ -119,7 +121,7 @@ pub accepted-ready : (records : ℕ) (who : RecordNumber) (s : Shared) (t : Reco
     → (E : Type 0) → ((p : Place) → Ready records who s t p → E) → E
 unfolding stepVerdict
 accepted-ready records who s t e E f =
-    let a = accepted (stepTests records who (s .set .capacity) (length (s .slots)) (length (s .custody)) (openedIn s t) t) e in
+    let a = step-passed records who (s .set .capacity) (length (s .slots)) (length (s .custody)) (openedIn s t) t e in
     opened-or (openedIn s t) (a .damaged) E (λ p q. f p (record { judged = e; opened = q }))
 
 -- what every step keeps: the buffers' lengths
@@ -129,7 +131,7 @@ slots-length (Exchange old new) slots = refl
 slots-length (Read i) slots = refl
 slots-length (Write i v) slots = simp length-set
 
-pub marked-length : (m : Mark) (custody : List ℕ) → length (marked m custody) ≡ length custody
+marked-length : (m : Mark) (custody : List ℕ) → length (marked m custody) ≡ length custody
 marked-length Nothing custody = refl
 marked-length (As i c) custody = simp length-set
 
@@ -144,57 +146,34 @@ not-idle (ReleaseExchange i m seen) = refl
 not-idle BorrowedLook = refl
 not-idle LockedLook = refl
 
-present : (records : ℕ) (who : RecordNumber) (t : Record) → notAlive t records who ≡ false → leb records (who .0) ≡ false
-unfolding notAlive
-present records who t e = both-false (leb records (who .0)) e .0
+-- the set and its buffers serve the record of that number
+abbrev pub Serves : ℕ → RecordNumber → Shared → Type 0
+Serves records who s =
+    Lent (ltb plainCapacityLimit (s .set .capacity)) (eqb (s .set .capacity) 0) (tooShort records (s .set .capacity) (length (s .slots)) (length (s .custody))) records who
 
-calling : (records : ℕ) (who : RecordNumber) (p : Place) (list : OwnerList) → leb records (who .0) ≡ false → notCalling (liveRecord (closedAt p) list) records who ≡ false
-unfolding notCalling notAlive
-calling records who p list e = simp (e, not-idle p)
+pub step-serves : (records : ℕ) (who : RecordNumber) (s : Shared) (t : Record) → stepJudged records who s t ≡ Accepted → Serves records who s
+step-serves records who s t e =
+    turn-lent _ t records who refl (step-passed records who (s .set .capacity) (length (s .slots)) (length (s .custody)) (openedIn s t) t e)
 
--- what is lent is enough for any record's turn, whatever the record
-pub record Lent (records : ℕ) (who : RecordNumber) (s : Shared) : Type 0 where
-  pub above : ltb plainCapacityLimit (s .set .capacity) ≡ false
-  pub zero : eqb (s .set .capacity) 0 ≡ false
-  pub short : tooShort records (s .set .capacity) (length (s .slots)) (length (s .custody)) ≡ false
-  pub here : leb records (who .0) ≡ false
-
-pub step-lent : (records : ℕ) (who : RecordNumber) (s : Shared) (t : Record) → stepJudged records who s t ≡ Accepted → Lent records who s
-unfolding stepVerdict notCalling
-step-lent records who s t e =
-    let a = accepted (stepTests records who (s .set .capacity) (length (s .slots)) (length (s .custody)) (openedIn s t) t) e in
-    record { above = a .above; zero = a .zero; short = a .short; here = present records who t (both-false (notAlive t records who) (a .ready) .0) }
-
-pub start-lent : (records : ℕ) (who : RecordNumber) (asked : Asked) (s : Shared) (t : Record) → startJudged records who asked s t ≡ Accepted → Lent records who s
-unfolding startVerdict notIdle
-start-lent records who asked s t e =
-    let a = accepted (startTests records who (s .set .capacity) (length (s .slots)) (s .custody) asked t) e in
-    record { above = a .above; zero = a .zero; short = a .short; here = present records who t (both-false (notAlive t records who) (a .ready) .0) }
+pub start-serves : (records : ℕ) (who : RecordNumber) (asked : Asked) (s : Shared) (t : Record) → startJudged records who asked s t ≡ Accepted → Serves records who s
+unfolding startVerdict
+start-serves records who asked s t e =
+    start-lent (startTests records who (s .set .capacity) (length (s .slots)) (s .custody) asked t) t records who refl (accepted _ e)
 
 -- a live record in a call that stands at a sound place is ready there
-pub ready : (records : ℕ) (who : RecordNumber) (s : Shared) (p : Place) (list : OwnerList) → Lent records who s → sound (s .set .capacity) p ≡ true
+pub ready : (records : ℕ) (who : RecordNumber) (s : Shared) (p : Place) (list : OwnerList) → Serves records who s → sound (s .set .capacity) p ≡ true
     → Ready records who s (liveRecord (closedAt p) list) p
 unfolding stepVerdict
 ready records who s p list l e =
     let o = opened-closed (s .set .capacity) p e in
-    record {
-      judged = all-accepted _ (record {
-        above = l .above;
-        zero = l .zero;
-        short = l .short;
-        ready = calling records who p list (l .here);
-        damaged = rw o refl;
-        known = refl;
-        owner = refl;
-        range = refl;
-        held = refl;
-      });
-      opened = o;
-    }
+    record { judged = lent-accepted _ _ _ _ (closedAt p) list records who l (not-idle p) (rw o refl); opened = o }
 
-stays-lent : (records : ℕ) (who : RecordNumber) (s : Shared) (p : Place) → Lent records who s → Lent records who (sharedAfter who p s)
+stays-served : (records : ℕ) (who : RecordNumber) (s : Shared) (p : Place) → Serves records who s → Serves records who (sharedAfter who p s)
 unfolding sharedAfter
-stays-lent records who s p l = record { above = l .above; zero = l .zero; short = simp (slots-length, marked-length) (l .short); here = l .here }
+stays-served records who s p l = record { above = l .above; zero = l .zero; short = simp (slots-length, marked-length) (l .short); here = l .here }
+
+pub marked-serves : (records : ℕ) (who : RecordNumber) (s : Shared) (m : Mark) → Serves records who s → Serves records who (shared (s .set) (s .slots) (marked m (s .custody)))
+marked-serves records who s m l = record { above = l .above; zero = l .zero; short = simp marked-length (l .short); here = l .here }
 
 pub going-sound : (capacity k w : ℕ) (n : Next) (q : Place) → n ≡ Going q → Nearer capacity k w n → (sound capacity q ≡ true) × (further q w < k)
 going-sound capacity k w n q e h = rw e at h
@@ -205,4 +184,4 @@ pub stays : (records : ℕ) (who : RecordNumber) (s : Shared) (t : Record) (p q 
 unfolding sharedAfter
 stays records who s t p q r e =
     let n = going-sound _ _ _ (nextAt p s) q e (nearer p s (ready-sound records who s t p r)) in
-    ready records who (sharedAfter who p s) q (t .list) (stays-lent records who s p (step-lent records who s t (r .judged))) (n .0)
+    ready records who (sharedAfter who p s) q (t .list) (stays-served records who s p (step-serves records who s t (r .judged))) (n .0)

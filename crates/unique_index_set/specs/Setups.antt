@@ -1,14 +1,13 @@
 -- A setup: head word 0, slot i holds i + 1 for i from 0 to the capacity (295 to 299), custody free below it, the record idle, its
 -- list empty. Entries beyond stay.
 use Prim.Native.Nat.{ℕ, _+_}
-use mathlib.Core.Bool.{Bool, true, false, cond}
+use mathlib.Core.Bool.{Bool, true, cond}
 use mathlib.Core.List.{List}
 use lib.ListN.{length}
 use lib.Dec.{ltb, leb, eqb}
 use Rattle.unique_index_set_enums.specs.Limits.{plainCapacityLimit, recordsLimit}
-use Rattle.calls.specs.declared.Tests.{Tests}
 use Rattle.calls.specs.declared.Verdict.{Verdict}
-use Rattle.calls.specs.Order.{verdictOf}
+use Rattle.calls.specs.Order.{testsAtSetup, verdictOf}
 use Rattle.calls.specs.Reports.{acceptedReport}
 use Rattle.thread_records.specs.declared.Record.{Record}
 use Rattle.thread_records.specs.Records.{emptyList, idleRecord}
@@ -33,21 +32,8 @@ unfoldable pub setupShort : ℕ → ℕ → ℕ → Bool
 setupShort records capacity custody = cond (ltb recordsLimit records) true (ltb custody capacity)
 
 -- refusals 3, 4 and 10, where `slots` and `custody` are the buffers' lengths
-abbrev pub setupTests : ℕ → ℕ → ℕ → ℕ → Tests
-setupTests records capacity slots custody = record {
-  «capacity_above_limit» = tooLarge capacity slots;
-  «capacity_zero» = eqb capacity 0;
-  «buffer_too_short» = setupShort records capacity custody;
-  «record_not_ready» = false;
-  «record_damaged» = false;
-  «not_known» = false;
-  «owner_is_empty» = false;
-  «index_out_of_range» = false;
-  «index_not_held» = false;
-}
-
 unfoldable pub setupVerdict : ℕ → ℕ → ℕ → ℕ → Verdict
-setupVerdict records capacity slots custody = verdictOf (setupTests records capacity slots custody)
+setupVerdict records capacity slots custody = verdictOf (testsAtSetup (tooLarge capacity slots) (eqb capacity 0) (setupShort records capacity custody))
 
 abbrev pub fresh : ℕ → Shared → Shared
 fresh capacity s = record {

@@ -9,9 +9,8 @@ use Rattle.unique_index_set_enums.specs.Limits.{plainCapacityLimit, recordsLimi
 use Rattle.calls.specs.declared.Refusal.{Refusal}
 use Rattle.calls.specs.declared.Refusal.the-variants.{RecordDamaged}
 use Rattle.calls.specs.declared.Report.{Report}
-use Rattle.calls.specs.declared.Tests.{Tests}
 use Rattle.calls.specs.declared.Verdict.{Verdict}
-use Rattle.calls.specs.Order.{verdictOf}
+use Rattle.calls.specs.Order.{testsAtTurn, verdictOf}
 use Rattle.calls.specs.Reports.{acceptedReport, answeredReport, refusedReport}
 use Rattle.thread_records.specs.declared.OwnerList.{OwnerList}
 use Rattle.thread_records.specs.declared.Record.{Record}
@@ -88,21 +87,9 @@ isDamaged (At p) = false
 isDamaged Damaged = true
 
 -- refusals 3, 4, 10, 9 and 11, where `slots` and `custody` are the buffers' lengths
-abbrev pub stepTests : ℕ → RecordNumber → ℕ → ℕ → ℕ → Opened → Record → Tests
-stepTests records who capacity slots custody opened t = record {
-  «capacity_above_limit» = ltb plainCapacityLimit capacity;
-  «capacity_zero» = eqb capacity 0;
-  «buffer_too_short» = tooShort records capacity slots custody;
-  «record_not_ready» = notCalling t records who;
-  «record_damaged» = isDamaged opened;
-  «not_known» = false;
-  «owner_is_empty» = false;
-  «index_out_of_range» = false;
-  «index_not_held» = false;
-}
-
 unfoldable pub stepVerdict : ℕ → RecordNumber → ℕ → ℕ → ℕ → Opened → Record → Verdict
-stepVerdict records who capacity slots custody opened t = verdictOf (stepTests records who capacity slots custody opened t)
+stepVerdict records who capacity slots custody opened t =
+    verdictOf (testsAtTurn (ltb plainCapacityLimit capacity) (eqb capacity 0) (tooShort records capacity slots custody) (notCalling t records who) (isDamaged opened) false)
 
 -- the record's call, opened at its place
 abbrev pub openedIn : Shared → Record → Opened
