@@ -1,10 +1,9 @@
 // Drives the plain set by lines of standard input, and writes what each call comes back with and leaves.
-mod lines;
 mod telling;
 mod worlds;
 
-use lines::Line;
-use lines::read_line;
+use call_lines::Line;
+use call_lines::read_line;
 use telling::tell_comment;
 use worlds::World;
 use worlds::apply;

@@ -1,5 +1,4 @@
 // The set, the record and the buffers that the calls are made on, and what each line does.
-use crate::lines::Line;
 use crate::telling::decimal;
 use crate::telling::hex;
 use crate::telling::tell_custody;
@@ -7,10 +6,11 @@ use crate::telling::tell_record;
 use crate::telling::tell_report;
 use crate::telling::tell_slots;
 use crate::telling::text;
+use call_lines::Line;
+use call_lines::record_numbers;
 use calls::Request;
 use thread_records::OwnerList;
 use thread_records::Record;
-use thread_records::Remembered;
 use thread_records::death;
 use thread_records::empty_list;
 use thread_records::idle_record;
@@ -84,54 +84,17 @@ fn same_entries(a: [u32; 8], b: [u32; 8]) -> bool {
     true
 }
 
-fn same_call(a: Remembered, b: Remembered) -> bool {
-    if a.place != b.place {
-        return false;
-    }
-    if a.mode != b.mode {
-        return false;
-    }
-    if a.index.0 != b.index.0 {
-        return false;
-    }
-    if a.seen != b.seen {
-        return false;
-    }
-    a.value == b.value
-}
-
-fn same_list(a: OwnerList, b: OwnerList) -> bool {
+fn same_record(a: Record, b: Record) -> bool {
+    let one = record_numbers(a);
+    let other = record_numbers(b);
     let mut i: usize = 0;
-    while i < 8 {
-        let p = a.owners[i];
-        let q = b.owners[i];
-        if p.0 != q.0 {
+    while i < 23 {
+        if one[i] != other[i] {
             return false;
         }
         i += 1;
     }
-    a.count == b.count
-}
-
-fn flag(mark: bool) -> u8 {
-    if mark {
-        return 1;
-    }
-    0
-}
-
-fn same_record(a: Record, b: Record) -> bool {
-    let a_call = a.call;
-    let b_call = b.call;
-    let a_list = a.list;
-    let b_list = b.list;
-    if flag(a.dead) != flag(b.dead) {
-        return false;
-    }
-    if same_call(a_call, b_call) {
-        return same_list(a_list, b_list);
-    }
-    false
+    true
 }
 
 fn same_world(a: World, b: World) -> bool {

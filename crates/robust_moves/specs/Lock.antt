@@ -1,4 +1,4 @@
--- lock (robust_unique_index_set.rs 241 to 271), one shared access at a time.
+-- lock (robust_unique_index_set.rs 241 to 270), one shared access at a time.
 use Prim.Native.Nat.{ℕ, _-_}
 use mathlib.Core.Bool.{Bool, true, cond}
 use lib.Dec.{ltb, eqb}

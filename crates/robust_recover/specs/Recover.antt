@@ -58,7 +58,7 @@ isCell after.Past = false
 unfoldable pub hasNext : ℕ → Index → Bool
 hasNext capacity cell = isCell (cellAfter capacity cell)
 
--- what each place may remember: the mode and the cell behind which the lock was called only where a cell follows it
+-- what each place may remember. Behind the cell at which the lock was called, the mode is left only where a further cell follows
 abbrev pub restSound : ℕ → Rest → Bool
 restSound capacity (rest.Cells cell m) = hasNext capacity cell
 restSound capacity (rest.LastLook cell) = cond (hasNext capacity cell) false (ltb (cell .0) capacity)

@@ -28,7 +28,7 @@ use Rattle.robust_moves.specs.declared.count.Counted.the-variants as counted
 use Rattle.robust_moves.specs.declared.lock.LockPlace.{LockPlace}
 use Rattle.robust_moves.specs.declared.lock.LockPlace.the-variants as lock
 use Rattle.robust_moves.specs.declared.lock.Locked.the-variants as locked
-use Rattle.robust_moves.specs.Bump.{bumpSound, bumpAccess, bumpResumed}
+use Rattle.robust_moves.specs.Bump.{bumpSound, bumpAccess, bumpLooked, bumpResumed}
 use Rattle.robust_moves.specs.Count.{countSound, countAccess, countLooked, countResumed}
 use Rattle.robust_moves.specs.Lock.{lockSound, lockAccess, lockResumed}
 use Rattle.robust_moves.proofs.Laws.{counted-facts}
@@ -50,7 +50,7 @@ use Rattle.robust_calls.specs.Resumes.{accessAt}
 use Rattle.robust_unique_index_set.specs.Accesses.{generationAfter, cellsAfter}
 use Rattle.robust_unique_index_set.specs.Steps.{Shared, sawAt, sharedAfter, advanced}
 
--- an acquire whose bump ends locked answers 2, with the cell still populated: the step leaves every cell as it is
+-- an acquire whose bump ends locked answers 2, with the cell still populated: its step leaves every cell, the won one too, as it stood
 pub record Populated (won : Index) (b : BumpPlace) (list : OwnerList) (s : Shared) : Type 0 where
   pub answers : advanced (Acquire (acquire.Bump won b)) list s .report .progress ≡ progress.Answered (answer.NotAcquired IsLocked)
   pub cells : advanced (Acquire (acquire.Bump won b)) list s .shared .cells ≡ s .cells
@@ -64,7 +64,7 @@ pub locked-acquire : (won : Index) (b : BumpPlace) (g : Generation) (list : Owne
 unfolding advanced sharedAfter
 locked-acquire won b g list s e l = record { answers = rw e (rw l refl); cells = bump-leaves b s }
 
--- a count that meets the lock mark gives 0 with that generation, and the lock exchange then remembers it
+-- a count whose look meets the lock mark gives 0 with that generation, and the lock exchange then remembers it
 pub locked-count : (capacity : ℕ) (saw : Saw) → isLockedAt (saw .generation) ≡ true → countResumed capacity count.Look saw ≡ counted.Ended (saw .generation) 0
 unfolding countLooked
 locked-count capacity saw l = rw l refl
@@ -81,17 +81,29 @@ lock-may capacity g = refl
 pub lock-ignored : (capacity : ℕ) (r : Rest) (x y : ReleaseState) → recoverLocked capacity r (locked.Ended x) ≡ recoverLocked capacity r (locked.Ended y)
 lock-ignored capacity r x y = refl
 
-pub last-look : (found : Generation) → lastLooked found ≡ cond (isLockedAt found) (recovering.Recovered state.Locked) (recovering.Recovered state.Unlocked)
-unfolding lastLooked
-last-look found = refl
+abbrev pub stateAt : Generation → ReleaseState
+stateAt found = cond (isLockedAt found) state.Locked state.Unlocked
 
--- a generation of u64::MAX - 1 locks at the next bump
+state-answer : (b : Bool) → cond b (recovering.Recovered state.Locked) (recovering.Recovered state.Unlocked) ≡ recovering.Recovered (cond b state.Locked state.Unlocked)
+state-answer true = refl
+state-answer false = refl
+
+pub last-look : (list : OwnerList) (s : Shared) → advanced (Recover recover.LastLook) list s .report .progress ≡ progress.Answered (answer.Recovered (stateAt (s .set .generation)))
+unfolding advanced lastLooked
+last-look list s = rw (state-answer (isLockedAt (s .set .generation))) refl
+
+-- a generation of u64::MAX - 1 locks at the next bump: its look goes on to the exchange, which moves it to the lock mark and ends there
 abbrev pub lastGeneration : Generation
 lastGeneration = generation 18446744073709551614
 
-pub last-bump : generationAfter lastGeneration (bumpAccess (bump.Exchange lastGeneration)) ≡ lockedGeneration
-unfolding nextGeneration
-last-bump = refl
+pub record LastBump (b w : Saw) : Type 0 where
+  pub looks : bumpResumed bump.Look b ≡ bumped.Going (bump.Exchange lastGeneration)
+  pub moves : generationAfter lastGeneration (bumpAccess (bump.Exchange lastGeneration)) ≡ lockedGeneration
+  pub ends : bumpResumed (bump.Exchange lastGeneration) w ≡ bumped.Ended lockedGeneration
+
+pub last-bump : (b w : Saw) → b .generation ≡ lastGeneration → w .won ≡ true → LastBump b w
+unfolding nextGeneration bumpLooked isLockedAt
+last-bump b w e won = record { looks = rw e refl; moves = refl; ends = rw won refl }
 
 -- the lock mark never changes: no access from a sound place moves it
 not-locked : (g : Generation) → isLockedAt g ≡ false → eqb (g .0) (lockedGeneration .0) ≡ false

@@ -6,7 +6,7 @@ use Rattle.unique_index_set_enums.specs.Kinds.{generation}
 use Rattle.unique_index_set_enums.specs.Robust.{noOwner}
 use Rattle.calls.specs.declared.Verdict.the-variants.{Accepted}
 use Rattle.thread_records.specs.declared.Record.{Record}
-use Rattle.thread_records.proofs.Filled.{filled-below, filled-beyond}
+use Rattle.thread_records.proofs.Filled.{filled-length, filled-below, filled-beyond}
 use Rattle.robust_unique_index_set.specs.Steps.{Shared}
 use Rattle.robust_unique_index_set.specs.Setups.{emptyCell, fresh, setupJudged, setupOf}
 use Rattle.robust_unique_index_set.proofs.Accepted.{setup-roomy}
@@ -14,6 +14,7 @@ use Rattle.robust_unique_index_set.proofs.Accepted.{setup-roomy}
 pub record Fresh (capacity : ℕ) (before after : Shared) : Type 0 where
   pub capacity-kept : after .set .capacity ≡ capacity
   pub generation-first : after .set .generation ≡ generation 0
+  pub cells-length : length (after .cells) ≡ length (before .cells)
   pub cells : (i : ℕ) → i < capacity → getD (after .cells) i 0 ≡ noOwner .0
   pub cells-beyond : (i : ℕ) → capacity ≤ i → getD (after .cells) i 0 ≡ getD (before .cells) i 0
 
@@ -21,6 +22,7 @@ set-fresh : (capacity : ℕ) (s : Shared) → capacity ≤ length (s .cells) →
 set-fresh capacity s l = record {
   capacity-kept = refl;
   generation-first = refl;
+  cells-length = filled-length emptyCell capacity (s .cells);
   cells = λ i h. filled-below emptyCell capacity i (s .cells) h l;
   cells-beyond = λ i h. filled-beyond emptyCell capacity i (s .cells) h;
 }

@@ -9,6 +9,10 @@ use Rattle.unique_index_set_enums.specs.declared.RecordNumber.{RecordNumber}
 use Rattle.unique_index_set_enums.specs.declared.UniqueIndexCreationError.the-variants.{ProvidedCapacityGreaterThanMaxCapacity, ProvidedCapacityIsZero}
 use Rattle.unique_index_set_enums.specs.declared.UniqueIndexSetAcquireFailure.the-variants.{OutOfIndices, IsLocked}
 use Rattle.unique_index_set_enums.specs.Limits.{robustCapacityLimit, recordsLimit}
+use Rattle.calls.specs.declared.Answer.{Answer}
+use Rattle.calls.specs.declared.Call.{Call}
+use Rattle.calls.specs.declared.Call.the-variants as call
+use Rattle.calls.specs.declared.Progress.the-variants as progress
 use Rattle.calls.specs.declared.Refusal.{Refusal}
 use Rattle.calls.specs.declared.Refusal.the-variants.{Capacity, BufferTooShort, RecordNotReady, RecordDamaged, NotKnown, OwnerIsEmpty, IndexOutOfRange, IndexNotHeld}
 use Rattle.calls.specs.declared.Request.{Request}
@@ -46,10 +50,11 @@ use Rattle.robust_calls.specs.declared.asks.Entry.{Entry}
 use Rattle.robust_calls.specs.declared.asks.Entry.the-variants as entry
 use Rattle.robust_calls.specs.Asks.{askedOf, listDamaged, firstPlace}
 use Rattle.robust_calls.specs.Resumes.{acquireNext, releaseNext, borrowedNext, findNext, recoverNext, resumedAt}
-use Rattle.robust_unique_index_set.specs.Steps.{Shared, leaves, advanced, nextAt, tooShort, isDamaged, turnVerdict, openedIn, stepJudged, steppedFrom, stepOf}
+use Rattle.robust_unique_index_set.specs.Steps.{Shared, leaves, progressAfter, sawAt, advanced, nextAt, tooShort, isDamaged, turnVerdict, openedIn, stepJudged, steppedFrom, stepOf}
 use Rattle.robust_unique_index_set.specs.Starts.{startTests, startVerdict, startJudged, enteredAt, startedFrom, startOf}
 use Rattle.robust_unique_index_set.specs.Setups.{tooLarge, setupVerdict, setupJudged, setFresh, setupOf}
 use Rattle.robust_unique_index_set.specs.Drains.{notDrained, drainJudged, again, drainOf}
+use Rattle.robust_unique_index_set.proofs.Stays.{Ready, stepped}
 use Rattle.robust_unique_index_set.proofs.Refused.{next-taken, Opens, step-keeps, drain-opens}
 
 pub setup-numbers : (records capacity : ℕ) (s : Shared) (t : Record) → RefusedAmong setupNumbers (setupOf records capacity s t)
@@ -104,47 +109,70 @@ drain-numbers records who b s t =
     (testsAtTurn (ltb robustCapacityLimit (s .set .capacity)) (eqb (s .set .capacity) 0) (tooShort records (s .set .capacity) (length (s .cells))) (notCalling t records who) (isDamaged (openedIn s t)) (notDrained (openedIn s t)))
     (drainJudged records who s t) refl (drain-failed _ _ _ _ _ _) (drain-opens records who s t)
 
+-- the call that a place is of
+abbrev pub callAt : Place → Call
+callAt (Acquire p) = call.Acquire
+callAt (Release p) = call.Release
+callAt (Borrowed p) = call.BorrowedIndices
+callAt LockedLook = call.IsLocked
+callAt (Find p) = call.Find
+callAt (Recover p) = call.Recover
+
 -- an acquire answers 0, 1 or 2, a release 0 or 6, the others 0
-abbrev pub answerNumbers : Place → List ℕ
-answerNumbers (Acquire p) = 0 ∷ 1 ∷ 2 ∷ []
-answerNumbers (Release p) = 0 ∷ 6 ∷ []
-answerNumbers (Borrowed p) = 0 ∷ []
-answerNumbers LockedLook = 0 ∷ []
-answerNumbers (Find p) = 0 ∷ []
-answerNumbers (Recover p) = 0 ∷ []
+abbrev pub answerNumbers : Call → List ℕ
+answerNumbers call.Acquire = 0 ∷ 1 ∷ 2 ∷ []
+answerNumbers call.Release = 0 ∷ 6 ∷ []
+answerNumbers call.BorrowedIndices = 0 ∷ []
+answerNumbers call.IsLocked = 0 ∷ []
+answerNumbers call.Find = 0 ∷ []
+answerNumbers call.Recover = 0 ∷ []
 
 -- the call goes on as the same call, or answers with one of its numbers
-abbrev pub NextAmong : List ℕ → Next → Type 0
-NextAmong ns (Going q) = answerNumbers q ≡ ns
-NextAmong ns (Answered a) = among (answerNumber a) ns ≡ true
+abbrev pub NextAmong : Call → Next → Type 0
+NextAmong c (Going q) = callAt q ≡ c
+NextAmong c (Answered a) = among (answerNumber a) (answerNumbers c) ≡ true
 
-acquire-among : (n : Acquiring) → NextAmong (0 ∷ 1 ∷ 2 ∷ []) (acquireNext n)
+acquire-among : (n : Acquiring) → NextAmong call.Acquire (acquireNext n)
 acquire-among (acquiring.Going p) = refl
 acquire-among (acquiring.Acquired i) = refl
 acquire-among (acquiring.Failed OutOfIndices) = refl
 acquire-among (acquiring.Failed IsLocked) = refl
 
-release-among : (n : Releasing) → NextAmong (0 ∷ 6 ∷ []) (releaseNext n)
+release-among : (n : Releasing) → NextAmong call.Release (releaseNext n)
 release-among (releasing.Going p) = refl
 release-among (releasing.Released s) = refl
 release-among releasing.NotOwned = refl
 
-borrowed-among : (n : Counted) → NextAmong (0 ∷ []) (borrowedNext n)
+borrowed-among : (n : Counted) → NextAmong call.BorrowedIndices (borrowedNext n)
 borrowed-among (counted.Going p) = refl
 borrowed-among (counted.Ended g m) = refl
 
-find-among : (n : Finding) → NextAmong (0 ∷ []) (findNext n)
+find-among : (n : Finding) → NextAmong call.Find (findNext n)
 find-among (finding.Going p) = refl
 find-among (finding.Found m) = refl
 
-recover-among : (n : Recovering) → NextAmong (0 ∷ []) (recoverNext n)
+recover-among : (n : Recovering) → NextAmong call.Recover (recoverNext n)
 recover-among (recovering.Going p) = refl
 recover-among (recovering.Recovered s) = refl
 
-pub next-among : (capacity : ℕ) (p : Place) (list : OwnerList) (saw : Saw) → NextAmong (answerNumbers p) (resumedAt capacity p list saw)
+pub next-among : (capacity : ℕ) (p : Place) (list : OwnerList) (saw : Saw) → NextAmong (callAt p) (resumedAt capacity p list saw)
 next-among capacity (Acquire p) list saw = acquire-among (acquireResumed capacity p saw)
 next-among capacity (Release p) list saw = release-among (releaseResumed capacity p saw)
 next-among capacity (Borrowed p) list saw = borrowed-among (countResumed capacity p saw)
 next-among capacity LockedLook list saw = refl
 next-among capacity (Find p) list saw = find-among (findResumed capacity p saw)
 next-among capacity (Recover p) list saw = recover-among (recoverResumed capacity p list saw)
+
+same-answer : (a b : Answer) → progress.Answered a ≡ progress.Answered b → a ≡ b
+same-answer a b e = cc
+
+answered-among : (c : Call) (n : Next) (a : Answer) → NextAmong c n → progressAfter n ≡ progress.Answered a → among (answerNumber a) (answerNumbers c) ≡ true
+answered-among c (Going q) a e p = cc
+answered-among c (Answered b) a e p = rw (← same-answer b a p) e
+
+-- what a ready record's step answers is one of its call's numbers
+pub step-answers : (records : ℕ) (who : RecordNumber) (s : Shared) (t : Record) (p : Place) (a : Answer) → Ready records who s t p
+    → stepOf records who s t .report .progress ≡ progress.Answered a → among (answerNumber a) (answerNumbers (callAt p)) ≡ true
+unfolding advanced
+step-answers records who s t p a r e =
+    answered-among (callAt p) (nextAt p (t .list) s) a (next-among (s .set .capacity) p (t .list) (sawAt p s)) (rw (stepped records who s t p r) at e)

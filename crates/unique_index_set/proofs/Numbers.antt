@@ -11,6 +11,10 @@ use Rattle.unique_index_set_enums.specs.declared.ReleaseMode.{ReleaseMode}
 use Rattle.unique_index_set_enums.specs.declared.UniqueIndexCreationError.the-variants.{ProvidedCapacityGreaterThanMaxCapacity, ProvidedCapacityIsZero}
 use Rattle.unique_index_set_enums.specs.Limits.{lockAcquire, plainCapacityLimit}
 use Rattle.unique_index_set_enums.proofs.Choice.{choose}
+use Rattle.calls.specs.declared.Answer.{Answer}
+use Rattle.calls.specs.declared.Call.{Call}
+use Rattle.calls.specs.declared.Call.the-variants as call
+use Rattle.calls.specs.declared.Progress.the-variants as progress
 use Rattle.calls.specs.declared.Refusal.{Refusal}
 use Rattle.calls.specs.declared.Refusal.the-variants as refusal
 use Rattle.calls.specs.declared.Refusal.the-variants.{Capacity, BufferTooShort, RecordNotReady, RecordDamaged, NotKnown, OwnerIsEmpty, IndexOutOfRange, IndexNotHeld}
@@ -34,11 +38,12 @@ use Rattle.plain_calls.specs.declared.resumes.Next.the-variants.{Going, Answere
 use Rattle.plain_calls.specs.declared.asks.Asked.{Asked}
 use Rattle.plain_calls.specs.declared.asks.Asked.the-variants as asked
 use Rattle.plain_calls.specs.Resumes.{acquireLooked, releaseLooked, resumedAt}
-use Rattle.unique_index_set.specs.Steps.{Shared, advanced, nextAt, tooShort, isDamaged, openedIn, stepVerdict, stepJudged, steppedFrom, stepOf}
+use Rattle.unique_index_set.specs.Steps.{Shared, reportAfter, sawAt, advanced, nextAt, tooShort, isDamaged, openedIn, stepVerdict, stepJudged, steppedFrom, stepOf}
 use Rattle.plain_calls.specs.Asks.{askedOf}
 use Rattle.unique_index_set.specs.Starts.{startTests, startVerdict, startJudged, startedFrom, startOf}
 use Rattle.unique_index_set.specs.Setups.{tooLarge, setupShort, setupVerdict, setupJudged, setFresh, setupOf}
 use Rattle.unique_index_set.specs.Drains.{again, drainOf}
+use Rattle.unique_index_set.proofs.Stays.{Ready, stepped}
 use Rattle.unique_index_set.proofs.Refused.{next-taken, Opens, step-keeps}
 
 pub setup-numbers : (records capacity : ℕ) (s : Shared) (t : Record) → RefusedAmong setupNumbers (setupOf records capacity s t)
@@ -99,42 +104,63 @@ drain-numbers records who b s t =
     drain-among (again records who) (λ e. Opens records who (e .shared) (e .thread)) (step-keeps records who) b s t stepNumbers (turnTests records who s t) (stepJudged records who s t) refl
     (step-failed _ _ _ _ _) (λ e. e)
 
--- an acquire answers 0, 1 or 2, a release 0 or 14, the two looks 0
-abbrev pub answerNumbers : Place → List ℕ
-answerNumbers AcquireLook = 0 ∷ 1 ∷ 2 ∷ []
-answerNumbers (AcquireRead seen) = 0 ∷ 1 ∷ 2 ∷ []
-answerNumbers (AcquireExchange seen value) = 0 ∷ 1 ∷ 2 ∷ []
-answerNumbers (AcquireWrite i) = 0 ∷ 1 ∷ 2 ∷ []
-answerNumbers (ReleaseLook i m) = 0 ∷ 14 ∷ []
-answerNumbers (ReleaseWrite i m seen) = 0 ∷ 14 ∷ []
-answerNumbers (ReleaseExchange i m seen) = 0 ∷ 14 ∷ []
-answerNumbers BorrowedLook = 0 ∷ []
-answerNumbers LockedLook = 0 ∷ []
+-- the call that a place is of
+abbrev pub callAt : Place → Call
+callAt AcquireLook = call.Acquire
+callAt (AcquireRead seen) = call.Acquire
+callAt (AcquireExchange seen value) = call.Acquire
+callAt (AcquireWrite i) = call.Acquire
+callAt (ReleaseLook i m) = call.Release
+callAt (ReleaseWrite i m seen) = call.Release
+callAt (ReleaseExchange i m seen) = call.Release
+callAt BorrowedLook = call.BorrowedIndices
+callAt LockedLook = call.IsLocked
+
+-- an acquire answers 0, 1 or 2, a release 0 or 14, the two looks 0; find and recover are no calls of a plain set
+abbrev pub answerNumbers : Call → List ℕ
+answerNumbers call.Acquire = 0 ∷ 1 ∷ 2 ∷ []
+answerNumbers call.Release = 0 ∷ 14 ∷ []
+answerNumbers call.BorrowedIndices = 0 ∷ []
+answerNumbers call.IsLocked = 0 ∷ []
+answerNumbers call.Find = []
+answerNumbers call.Recover = []
 
 -- the call goes on as the same call, or answers with one of its numbers
-abbrev pub NextAmong : List ℕ → Next → Type 0
-NextAmong ns (Going q) = answerNumbers q ≡ ns
-NextAmong ns (Answered a) = among (answerNumber a) ns ≡ true
+abbrev pub NextAmong : Call → Next → Type 0
+NextAmong c (Going q) = callAt q ≡ c
+NextAmong c (Answered a) = among (answerNumber a) (answerNumbers c) ≡ true
 
-acquire-among : (capacity w : ℕ) → NextAmong (0 ∷ 1 ∷ 2 ∷ []) (acquireLooked capacity w)
+acquire-among : (capacity w : ℕ) → NextAmong call.Acquire (acquireLooked capacity w)
 unfolding acquireLooked
 acquire-among capacity w =
-    choose (NextAmong (0 ∷ 1 ∷ 2 ∷ [])) (leb capacity (headOf w)) _ _ (λ _. refl) (λ _.
-    choose (NextAmong (0 ∷ 1 ∷ 2 ∷ [])) (eqb (borrowedOf w) lockAcquire) _ _ (λ _. refl) (λ _. refl))
+    choose (NextAmong call.Acquire) (leb capacity (headOf w)) _ _ (λ _. refl) (λ _.
+    choose (NextAmong call.Acquire) (eqb (borrowedOf w) lockAcquire) _ _ (λ _. refl) (λ _. refl))
 
-release-among : (i : Index) (m : ReleaseMode) (w : ℕ) → NextAmong (0 ∷ 14 ∷ []) (releaseLooked i m w)
+release-among : (i : Index) (m : ReleaseMode) (w : ℕ) → NextAmong call.Release (releaseLooked i m w)
 unfolding releaseLooked
-release-among i m w = choose (NextAmong (0 ∷ 14 ∷ [])) (mayRelease w) _ _ (λ _. refl) (λ _. refl)
+release-among i m w = choose (NextAmong call.Release) (mayRelease w) _ _ (λ _. refl) (λ _. refl)
 
-pub next-among : (capacity : ℕ) (p : Place) (saw : Saw) → NextAmong (answerNumbers p) (resumedAt capacity p saw)
+pub next-among : (capacity : ℕ) (p : Place) (saw : Saw) → NextAmong (callAt p) (resumedAt capacity p saw)
 next-among capacity AcquireLook saw = acquire-among capacity (saw .word)
 next-among capacity (AcquireRead seen) saw = refl
-next-among capacity (AcquireExchange seen value) saw =
-    choose (NextAmong (0 ∷ 1 ∷ 2 ∷ [])) (saw .won) _ _ (λ _. refl) (λ _. acquire-among capacity (saw .word))
+next-among capacity (AcquireExchange seen value) saw = choose (NextAmong call.Acquire) (saw .won) _ _ (λ _. refl) (λ _. acquire-among capacity (saw .word))
 next-among capacity (AcquireWrite i) saw = refl
 next-among capacity (ReleaseLook i m) saw = release-among i m (saw .word)
 next-among capacity (ReleaseWrite i m seen) saw = refl
-next-among capacity (ReleaseExchange i m seen) saw =
-    choose (NextAmong (0 ∷ 14 ∷ [])) (saw .won) _ _ (λ _. refl) (λ _. release-among i m (saw .word))
+next-among capacity (ReleaseExchange i m seen) saw = choose (NextAmong call.Release) (saw .won) _ _ (λ _. refl) (λ _. release-among i m (saw .word))
 next-among capacity BorrowedLook saw = refl
 next-among capacity LockedLook saw = refl
+
+same-answer : (a b : Answer) → progress.Answered a ≡ progress.Answered b → a ≡ b
+same-answer a b e = cc
+
+answered-among : (c : Call) (n : Next) (a : Answer) → NextAmong c n → reportAfter n .progress ≡ progress.Answered a → among (answerNumber a) (answerNumbers c) ≡ true
+answered-among c (Going q) a e p = cc
+answered-among c (Answered b) a e p = rw (← same-answer b a p) e
+
+-- what a ready record's step answers is one of its call's numbers
+pub step-answers : (records : ℕ) (who : RecordNumber) (s : Shared) (t : Record) (p : Place) (a : Answer) → Ready records who s t p
+    → stepOf records who s t .report .progress ≡ progress.Answered a → among (answerNumber a) (answerNumbers (callAt p)) ≡ true
+unfolding advanced
+step-answers records who s t p a r e =
+    answered-among (callAt p) (nextAt p s) a (next-among (s .set .capacity) p (sawAt p s)) (rw (stepped records who s t p r) at e)

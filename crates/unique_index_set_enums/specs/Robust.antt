@@ -15,7 +15,7 @@ noOwner = owner u64Max
 abbrev pub lockedGeneration : Generation
 lockedGeneration = generation u64Max
 
--- OwnerId::new, 148 to 155
+-- OwnerId::new, robust_unique_index_set.rs 148 to 155
 unfoldable pub ownerRead : ℕ → OwnerIdRead
 ownerRead o = cond (eqb o u64Max) InvalidOwnerValue (Known (owner o))
 

@@ -1,16 +1,21 @@
-// A line: a letter, and up to six numbers in decimal or, behind an x, in hex.
+// What the gate's programs read and compare: a line as a letter and numbers, a record as its numbers.
+use thread_records::OwnerList;
+use thread_records::Record;
+ghost use mathlib.Core.Path.{_≡_};
 ghost use Prim.Native.Nat.{_<_};
 ghost use lib.ListN.{length};
+ghost use Rattle.call_lines.specs.Numbers.{flag, ownerAt, recordNumbers};
 
+// A line: a letter, and up to six numbers in decimal or, behind an x, in hex.
 pub struct Line {
     pub command: u8,
     pub numbers: [u64; 6],
     pub next: usize,
 }
 
-pub struct Read {
-    pub value: u64,
-    pub next: usize,
+struct Read {
+    value: u64,
+    next: usize,
 }
 
 // The place behind the line that goes on at a place.
@@ -79,7 +84,7 @@ fn number(input: &[u8], from: usize) -> Read {
     digits(input, at, 10)
 }
 
-pub(crate) fn read_line(input: &[u8], at: usize) -> Line
+fn line_at(input: &[u8], at: usize) -> Line
     requires { ⌜ at < length (now input) ⌝ }
     ensures { λ r. ⌜ at < r .next ⌝ }
 {
@@ -101,4 +106,70 @@ pub(crate) fn read_line(input: &[u8], at: usize) -> Line
         ],
         next: line_end(input, at),
     }
+}
+
+// The line that begins at a place, and where the next one begins. Behind the input there is an empty line for ever.
+pub fn read_line(input: &[u8], at: usize) -> Line
+    ensures { λ r. ⌜ (at < length (now (input .entry)) → at < r .next) ⌝ }
+{
+    if at < input.len() {
+        return line_at(input, at);
+    }
+    Line {
+        command: b'\n',
+        numbers: [0u64; 6],
+        next: at,
+    }
+}
+
+fn flag(mark: bool) -> u64
+    ensures { λ r. ⌜ r ≡ flag mark ⌝ }
+{
+    if mark {
+        return 1;
+    }
+    0
+}
+
+fn owner_at(list: OwnerList, at: usize) -> u64
+    requires { ⌜ at < 8 ⌝ }
+    ensures { λ r. ⌜ r ≡ ownerAt list at ⌝ }
+{
+    let owner = list.owners[at];
+    owner.0
+}
+
+// All that a record is: 0 or 1 for dead, the call's numbers (place, mode, index, owner, generation, reported, room, the
+// count's four, the plain call's word seen and value read), the list's count and its owners.
+pub fn record_numbers(thread: Record) -> [u64; 23]
+    ensures { λ r. ⌜ r ≡ recordNumbers thread ⌝ }
+{
+    let list = thread.list;
+    let call = thread.call;
+    let counting = call.counting;
+    [
+        flag(thread.dead),
+        call.place as u64,
+        call.mode as u64,
+        call.index.0 as u64,
+        call.owner.0,
+        call.generation.0,
+        call.reported as u64,
+        call.room as u64,
+        counting.generation.0,
+        counting.cell.0 as u64,
+        counting.counted as u64,
+        counting.bump.0,
+        call.seen,
+        call.value as u64,
+        list.count as u64,
+        owner_at(list, 0),
+        owner_at(list, 1),
+        owner_at(list, 2),
+        owner_at(list, 3),
+        owner_at(list, 4),
+        owner_at(list, 5),
+        owner_at(list, 6),
+        owner_at(list, 7),
+    ]
 }

@@ -1,8 +1,8 @@
 use borrow.Author.Needs.{needs}
 use Prim.Native.Nat.{_-_, _≤_}
 use lib.ListN.{length}
-use Rattle.plain_limits.proofs.lines.line_end.Statement.{statement}
-use Rattle.plain_limits.proofs.lines.line_end.Tie as tie
+use Rattle.call_lines.proofs.line_end.Statement.{statement}
+use Rattle.call_lines.proofs.line_end.Tie as tie
 
 abbrev Inv-loop : tie.InvT-loop
 Inv-loop input at end₀ end = at ≤ end

@@ -1,8 +1,8 @@
 use borrow.Author.Needs.{needs}
 use Prim.Native.Nat.{_-_}
 use lib.ListN.{length}
-use Rattle.plain_limits.proofs.lines.digits.Statement.{statement}
-use Rattle.plain_limits.proofs.lines.digits.Tie as tie
+use Rattle.call_lines.proofs.digits.Statement.{statement}
+use Rattle.call_lines.proofs.digits.Tie as tie
 
 abbrev Inv-loop : tie.InvT-loop
 Inv-loop input from base value₀ at₀ value at = Unit {0}

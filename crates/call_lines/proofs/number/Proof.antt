@@ -1,8 +1,8 @@
 use borrow.Author.Needs.{needs}
 use Prim.Native.Nat.{_-_}
 use lib.ListN.{length}
-use Rattle.plain_limits.proofs.lines.number.Statement.{statement}
-use Rattle.plain_limits.proofs.lines.number.Tie as tie
+use Rattle.call_lines.proofs.number.Statement.{statement}
+use Rattle.call_lines.proofs.number.Tie as tie
 
 abbrev Inv-loop : tie.InvT-loop
 Inv-loop input from at₀ at = Unit {0}
