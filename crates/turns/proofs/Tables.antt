@@ -1,0 +1,63 @@
+-- A turn on a table of records, whatever the set: refused, it changes nothing; the other records stay as `elsewhere` says; the named one
+-- is left as its turn leaves it. A refused setup changes nothing, an accepted one leaves every record idle. Assumes nothing.
+use Prim.Native.Nat.{ℕ, _<_}
+use mathlib.Core.Path.{_≡_, refl, ap}
+use mathlib.Core.Bool.{true}
+use mathlib.Core.List.{List, [], _∷_, map}
+use lib.ListN.{length, getD, set}
+use lib.Seq.{getD-set-same, getD-set-other, set-getD}
+use Rattle.unique_index_set_enums.specs.declared.RecordNumber.{RecordNumber}
+use Rattle.calls.specs.declared.Refusal.{Refusal}
+use Rattle.calls.specs.declared.Progress.the-variants as progress
+use Rattle.calls.specs.declared.Verdict.{Verdict}
+use Rattle.calls.specs.declared.Verdict.the-variants.{Accepted, Refused}
+use Rattle.calls.specs.Runs.{Run}
+use Rattle.thread_records.specs.declared.Record.{Record}
+use Rattle.thread_records.specs.Records.{emptyList, idleRecord}
+use Rattle.thread_records.specs.Effects.{Effect, judged}
+use Rattle.thread_records.proofs.Effects.{Unchanged, Harmless, taken}
+use Rattle.turns.specs.Docks.{Table, Turned, elsewhere, settled, named, turnIn, setupIn}
+
+same-map : (f : Record → Record) → ((t : Record) → f t ≡ t) → (records : List Record) → map f records ≡ records
+same-map f e [] = refl
+same-map f e (t ∷ records) = rw (e t) (ap (λ (l : List Record). t ∷ l) (same-map f e records))
+
+module _ {S : Type 0} (who : RecordNumber) (e : Effect S) (records : List Record) where
+  elsewhere-same : map (elsewhere e) records ≡ records
+  elsewhere-same = same-map (elsewhere e) (λ t. refl) records
+
+  settled-as : settled who e records ≡ set records (who .0) (e .thread)
+  unfolding settled
+  settled-as = rw elsewhere-same refl
+
+  -- the other records stay as `elsewhere` says
+  pub others-stay : (j : ℕ) (d : Record) → (j ≡ who .0 → ⊥) → getD (settled who e records) j d ≡ elsewhere e (getD records j d)
+  others-stay j d n = rw settled-as (getD-set-other records (who .0) j (e .thread) d n)
+
+  -- the named one is left as its turn leaves it
+  pub named-after : (d : Record) → who .0 < length records → getD (settled who e records) (who .0) d ≡ e .thread
+  named-after d h = rw settled-as (getD-set-same records (who .0) (e .thread) d h)
+
+  settled-same : e .thread ≡ named who records → settled who e records ≡ records
+  settled-same q = rw settled-as (rw q (set-getD records (who .0) (idleRecord emptyList)))
+
+same-table : {S : Type 0} (s : S) (records : List Record) (d : Table S) → s ≡ d .shared → records ≡ d .records
+    → _≡_ {A = Table S} (record { shared = s; records = records }) d
+same-table s records d p q = rw p (rw q refl)
+
+-- a refused turn changes nothing
+pub turn-unchanged : {S : Type 0} (own : ℕ → S → Record → Run (Effect S)) (who : RecordNumber) (d : Table S)
+    → Harmless (d .shared) (named who (d .records)) (own (length (d .records)) (d .shared) (named who (d .records)) .left)
+    → (why : Refusal) → turnIn own who d .report .progress ≡ progress.Refused why → turnIn own who d .left ≡ d
+turn-unchanged own who d h why p =
+    let u = h why p in
+    same-table _ _ d (u .shared) (settled-same who (own (length (d .records)) (d .shared) (named who (d .records)) .left) (d .records) (u .thread))
+
+-- a setup that its verdict refuses changes nothing, and one that it accepts leaves every record as the setup leaves one
+pub setup-unchanged : {S : Type 0} (v : Verdict) (e : Effect S) (d : Table S) → taken (e .report .progress) ≡ true → (why : Refusal)
+    → setupIn (λ n s t. judged v s t e) d .report .progress ≡ progress.Refused why → setupIn (λ n s t. judged v s t e) d .left ≡ d
+setup-unchanged (Refused w) e d k why p = same-table _ _ d refl (same-map (λ t. t) (λ t. refl) (d .records))
+setup-unchanged Accepted e d k why p = let z : taken (progress.Refused why) ≡ true = rw p at k in cc
+
+pub setup-each : {S : Type 0} (v : Verdict) (e : Effect S) (d : Table S) → v ≡ Accepted → setupIn (λ n s t. judged v s t e) d .left .records ≡ map (λ t. e .thread) (d .records)
+setup-each v e d q = rw q refl
