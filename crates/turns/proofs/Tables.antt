@@ -1,11 +1,12 @@
 -- A turn on a table of records, whatever the set: refused, it changes nothing; the other records stay as `elsewhere` says; the named one
--- is left as its turn leaves it. A refused setup changes nothing, an accepted one leaves every record idle. Assumes nothing.
-use Prim.Native.Nat.{ℕ, _<_}
-use mathlib.Core.Path.{_≡_, refl, ap}
+-- is left as its turn leaves it. Whoever reads the named record out of a table, turns it by value and stores it back has made that turn.
+-- A refused setup changes nothing, an accepted one leaves every record idle. Assumes nothing.
+use Prim.Native.Nat.{ℕ, _≤_, _<_}
+use mathlib.Core.Path.{_≡_, refl, sym, ap, _∙_}
 use mathlib.Core.Bool.{true}
 use mathlib.Core.List.{List, [], _∷_, map}
-use lib.ListN.{length, getD, set}
-use lib.Seq.{getD-set-same, getD-set-other, set-getD}
+use lib.ListN.{length, getD, set, List·getD-eq-default}
+use lib.Seq.{getD-set-same, getD-set-other, set-getD, set-out}
 use Rattle.unique_index_set_enums.specs.declared.RecordNumber.{RecordNumber}
 use Rattle.calls.specs.declared.Refusal.{Refusal}
 use Rattle.calls.specs.declared.Progress.the-variants as progress
@@ -16,7 +17,7 @@ use Rattle.thread_records.specs.declared.Record.{Record}
 use Rattle.thread_records.specs.Records.{emptyList, idleRecord}
 use Rattle.thread_records.specs.Effects.{Effect, judged}
 use Rattle.thread_records.proofs.Effects.{Unchanged, Harmless, taken}
-use Rattle.turns.specs.Docks.{Table, Turned, elsewhere, settled, named, turnIn, setupIn}
+use Rattle.turns.specs.Docks.{Table, Turned, elsewhere, settled, named, turnedTable, turnIn, setupIn}
 
 same-map : (f : Record → Record) → ((t : Record) → f t ≡ t) → (records : List Record) → map f records ≡ records
 same-map f e [] = refl
@@ -40,6 +41,33 @@ module _ {S : Type 0} (who : RecordNumber) (e : Effect S) (records : List Record
 
   settled-same : e .thread ≡ named who records → settled who e records ≡ records
   settled-same q = rw settled-as (rw q (set-getD records (who .0) (idleRecord emptyList)))
+
+-- whoever keeps the table: a turn of the record by value, and what it gave stored back
+module _ {S : Type 0} (own : ℕ → S → Record → Run (Effect S)) (who : RecordNumber) (s : S) (records : List Record) where
+  abbrev turnAt : ℕ → Run (Effect S)
+  turnAt j = own (length records) s (getD records j (idleRecord emptyList))
+
+  abbrev with : Run (Effect S) → List Record → Turned (Table S)
+  with u l = record { left = record { shared = u .left .shared; records = l }; report = u .left .report; steps = u .steps }
+
+  stored : (u : Run (Effect S)) → with u (set records (who .0) (u .left .thread)) ≡ turnedTable who records u
+  stored u = ap (with u) (sym (settled-as who (u .left) records))
+
+  -- a record that is there
+  pub there : (u : Run (Effect S)) (i : ℕ) → i ≡ who .0 → u ≡ turnAt i → with u (set records i (u .left .thread)) ≡ turnIn own who (record { shared = s; records = records })
+  there u i h e =
+      ap (λ (j : ℕ). with u (set records j (u .left .thread))) h
+      ∙ ap (λ (w : Run (Effect S)). with w (set records (who .0) (w .left .thread))) (e ∙ ap turnAt h)
+      ∙ stored (turnAt (who .0))
+
+  -- a record that is not: the idle one stands in, and the table is left alone
+  pub missing : (u : Run (Effect S)) → length records ≤ who .0 → u ≡ own (length records) s (idleRecord emptyList)
+      → with u records ≡ turnIn own who (record { shared = s; records = records })
+  missing u h e =
+      let q : u ≡ turnAt (who .0) = e ∙ ap (λ (t : Record). own (length records) s t) (sym (List·getD-eq-default records (idleRecord emptyList) h)) in
+      ap (λ (w : Run (Effect S)). with w records) q
+      ∙ ap (with (turnAt (who .0))) (sym (set-out records (who .0) (turnAt (who .0) .left .thread) h))
+      ∙ stored (turnAt (who .0))
 
 same-table : {S : Type 0} (s : S) (records : List Record) (d : Table S) → s ≡ d .shared → records ≡ d .records
     → _≡_ {A = Table S} (record { shared = s; records = records }) d
