@@ -5,7 +5,6 @@ use mathlib.Core.List.{List, [], _∷_}
 use lib.ListN.{getD}
 use Rattle.unique_index_set_enums.specs.Kinds.{owner}
 use Rattle.thread_records.specs.declared.OwnerList.{OwnerList}
-use Rattle.thread_records.specs.declared.Remembered.{Remembered}
 use Rattle.thread_records.specs.declared.Record.{Record}
 
 unfoldable pub flag : Bool → ℕ

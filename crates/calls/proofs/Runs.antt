@@ -1,7 +1,7 @@
 -- A run's next step, where the budget leaves one: it goes on, or stops. A run is the iterate of its step, as many times as it
 -- counts, and at most the budget's. Assumes nothing.
 use Prim.Native.Nat.{ℕ, zero, suc, _+_, _-_, _≤_, _<_}
-use mathlib.Core.Path.{_≡_, refl, sym}
+use mathlib.Core.Path.{_≡_, refl}
 use mathlib.Core.Bool.{Bool, true, false, cond}
 use native.Mathlib.Omega.{arith}
 use Rattle.calls.specs.Runs.{Run, runFrom}

@@ -3,7 +3,6 @@ use Prim.Native.Nat.{ℕ}
 use mathlib.Core.Bool.{cond}
 use lib.Dec.{eqb}
 use Rattle.unique_index_set_enums.specs.Numbers.{stateValue, acquireFailureNumber, creationErrorNumber}
-use Rattle.calls.specs.declared.Call.{Call}
 use Rattle.calls.specs.declared.Call.the-variants as call
 use Rattle.calls.specs.declared.CallRead.{CallRead}
 use Rattle.calls.specs.declared.CallRead.the-variants.{Known, Unknown}

@@ -1,6 +1,5 @@
 -- The order in which a call is refused, for every call of both sets: each refusal is given exactly where its own test fails and
 -- none before it in the order does.
-use Prim.Native.Nat.{ℕ}
 use mathlib.Core.Bool.{Bool, false, cond}
 use mathlib.Core.List.{List, [], _∷_}
 use Rattle.unique_index_set_enums.specs.declared.UniqueIndexCreationError.the-variants.{ProvidedCapacityGreaterThanMaxCapacity, ProvidedCapacityIsZero}

@@ -1,11 +1,11 @@
 -- A custody entry's round trips: an entry that is made stands for what it was made of, and an entry that stands for something is
 -- what is made of that. Assumes nothing.
-use Prim.Native.Nat.{ℕ, _+_, _*_, _<_, _/_, _%_}
+use Prim.Native.Nat.{ℕ, _<_, _/_}
 use mathlib.Core.Path.{_≡_, refl}
 use mathlib.Core.Bool.{Bool, true, false, cond}
 use native.Mathlib.Omega.{arith}
 use lib.Dec.{eqb, lit<}
-use borrow.Author.Tests.{eq-eqb, ne-eqb, eqb-true, eqb-false}
+use borrow.Author.Tests.{ne-eqb, eqb-true}
 use Rattle.unique_index_set_enums.proofs.Choice.{choose}
 use Rattle.unique_index_set_enums.specs.Kinds.{recordNumber}
 use Rattle.custody.specs.declared.Custody.{Custody}

@@ -1,7 +1,7 @@
 -- The head word's round trips: details whose fields fit their bits are unpacked again from their word, and any 64-bit word is packed
 -- again from its details. Assumes nothing.
-use Prim.Native.Nat.{ℕ, _+_, _*_, _<_, _/_, _%_, _^_}
-use mathlib.Core.Path.{_≡_, refl}
+use Prim.Native.Nat.{ℕ, _<_, _%_, _^_}
+use mathlib.Core.Path.{_≡_}
 use native.Mathlib.Omega.{arith}
 use Rattle.head_details.specs.declared.HeadDetails.{HeadDetails}
 use Rattle.head_details.specs.Word.{headOf, tagOf, borrowedOf, details, unpacked, packed, Unpacked}

@@ -1,8 +1,8 @@
 -- Of acquire: a closed place is read as itself, and what goes on from a sound place is sound. Assumes nothing.
-use Prim.Native.Nat.{ℕ, _+_, _-_, _≤_, _<_}
+use Prim.Native.Nat.{ℕ, _-_, _<_}
 use mathlib.Core.Path.{_≡_, refl}
-use mathlib.Core.Bool.{Bool, true, false, cond, not}
-use lib.Dec.{ltb, leb}
+use mathlib.Core.Bool.{true, false}
+use lib.Dec.{leb}
 use borrow.Author.Tests.{ltb-true, lt-ltb, lt-leb, not-true}
 use Rattle.unique_index_set_enums.specs.declared.Index.{Index}
 use Rattle.unique_index_set_enums.specs.declared.OwnerId.{OwnerId}

@@ -13,7 +13,6 @@ use Rattle.thread_records.specs.Records.{noCounting, robustCall, bumpCounting}
 use Rattle.robust_moves.specs.declared.Access.{Access}
 use Rattle.robust_moves.specs.declared.Access.the-variants as access
 use Rattle.robust_moves.specs.declared.Saw.{Saw}
-use Rattle.robust_moves.specs.declared.bump.BumpPlace.{BumpPlace}
 use Rattle.robust_moves.specs.declared.bump.BumpPlace.the-variants as bump
 use Rattle.robust_moves.specs.declared.bump.Bumped.{Bumped}
 use Rattle.robust_moves.specs.declared.bump.Bumped.the-variants as bumped

@@ -1,9 +1,9 @@
 -- Of the robust set's calls: what goes on from a sound place is sound, with the list beside it; what a start may accept enters at a
 -- sound place. Assumes nothing.
-use Prim.Native.Nat.{ℕ, _≤_, _<_, _^_}
+use Prim.Native.Nat.{ℕ, _<_, _^_}
 use mathlib.Core.Path.{_≡_, refl}
-use mathlib.Core.Bool.{Bool, true, false, cond, not}
-use lib.Dec.{ltb, leb, eqb}
+use mathlib.Core.Bool.{true, false}
+use lib.Dec.{eqb}
 use native.Mathlib.Omega.{arith}
 use borrow.Author.Tests.{leb-false, lt-ltb, lt-leb, eqb-false, not-false}
 use Rattle.unique_index_set_enums.specs.declared.ModeRead.{ModeRead}
@@ -37,7 +37,6 @@ use Rattle.robust_find.specs.declared.Finding.the-variants as finding
 use Rattle.robust_find.specs.Find.{findSound, findResumed}
 use Rattle.robust_find.proofs.Laws.{FindStays, find-stays}
 use Rattle.robust_recover.specs.declared.RecoverPlace.{RecoverPlace}
-use Rattle.robust_recover.specs.declared.RecoverPlace.the-variants as recover
 use Rattle.robust_recover.specs.declared.Recovering.{Recovering}
 use Rattle.robust_recover.specs.declared.Recovering.the-variants as recovering
 use Rattle.robust_recover.specs.Recover.{recoverSound, readsList, recoverResumed}

@@ -1,6 +1,5 @@
 -- The access at each place, and where a call goes on after it, or its answer; each call's own part is in its own crate.
 use Prim.Native.Nat.{ℕ}
-use mathlib.Core.Bool.{Bool}
 use Rattle.unique_index_set_enums.specs.Robust.{isLockedAt}
 use Rattle.calls.specs.declared.Answer.{Answer}
 use Rattle.calls.specs.declared.Answer.the-variants as answer

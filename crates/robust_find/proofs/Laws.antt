@@ -1,11 +1,10 @@
 -- Of find: a closed place is read as itself, and what goes on from a sound place is sound. Assumes nothing.
-use Prim.Native.Nat.{ℕ, _+_, _%_, _^_, _≤_, _<_}
+use Prim.Native.Nat.{ℕ, _+_, _^_, _≤_, _<_}
 use mathlib.Core.Path.{_≡_, refl}
-use mathlib.Core.Bool.{Bool, true, false, cond}
+use mathlib.Core.Bool.{true, false}
 use lib.Dec.{ltb, leb, eqb}
 use native.Mathlib.Omega.{arith}
 use borrow.Author.Tests.{ltb-true, ltb-false, leb-false, lt-ltb, le-ltb, lt-leb}
-use Rattle.unique_index_set_enums.specs.declared.OwnerId.{OwnerId}
 use Rattle.unique_index_set_enums.specs.Robust.{isEmpty}
 use Rattle.unique_index_set_enums.proofs.Choice.{choose, second-true}
 use Rattle.robust_moves.specs.declared.Saw.{Saw}

@@ -10,7 +10,6 @@ use Rattle.thread_records.specs.declared.Counting.{Counting}
 use Rattle.robust_moves.specs.declared.Access.{Access}
 use Rattle.robust_moves.specs.declared.Access.the-variants as access
 use Rattle.robust_moves.specs.declared.Saw.{Saw}
-use Rattle.robust_moves.specs.declared.count.CountPlace.{CountPlace}
 use Rattle.robust_moves.specs.declared.count.CountPlace.the-variants as count
 use Rattle.robust_moves.specs.declared.count.Counted.{Counted}
 use Rattle.robust_moves.specs.declared.count.Counted.the-variants as counted

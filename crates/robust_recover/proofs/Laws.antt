@@ -1,7 +1,7 @@
 -- Of recover: a closed sound place is read as itself, and what goes on from a sound place is sound. Assumes nothing.
-use Prim.Native.Nat.{ℕ, _+_, _-_, _<_, _^_}
+use Prim.Native.Nat.{ℕ, _-_, _<_, _^_}
 use mathlib.Core.Path.{_≡_, refl}
-use mathlib.Core.Bool.{Bool, true, false, cond}
+use mathlib.Core.Bool.{true}
 use lib.Dec.{ltb, leb}
 use borrow.Author.Tests.{ltb-true, leb-false, lt-ltb, lt-leb}
 use Rattle.unique_index_set_enums.specs.declared.Index.{Index}
@@ -15,7 +15,6 @@ use Rattle.unique_index_set_enums.proofs.Modes.{mode-read}
 use Rattle.thread_records.specs.declared.OwnerList.{OwnerList}
 use Rattle.thread_records.specs.Lists.{listed}
 use Rattle.robust_moves.specs.declared.Saw.{Saw}
-use Rattle.robust_moves.specs.declared.bump.BumpPlace.{BumpPlace}
 use Rattle.robust_moves.specs.declared.bump.BumpPlace.the-variants as bump
 use Rattle.robust_moves.specs.declared.bump.Bumped.{Bumped}
 use Rattle.robust_moves.specs.declared.bump.Bumped.the-variants as bumped
@@ -26,9 +25,9 @@ use Rattle.robust_moves.specs.declared.lock.LockPlace.{LockPlace}
 use Rattle.robust_moves.specs.declared.lock.LockPlace.the-variants as lock
 use Rattle.robust_moves.specs.declared.lock.Locked.{Locked}
 use Rattle.robust_moves.specs.declared.lock.Locked.the-variants as locked
-use Rattle.robust_moves.specs.Bump.{bumpSound, bumpRead, bumpResumed}
+use Rattle.robust_moves.specs.Bump.{bumpRead, bumpResumed}
 use Rattle.robust_moves.specs.Count.{cellAfter, countReadBump, countRead}
-use Rattle.robust_moves.specs.Lock.{lockSound, lockResumed, lockReadCount, lockRead, lockClosed}
+use Rattle.robust_moves.specs.Lock.{lockResumed, lockReadCount, lockRead}
 use Rattle.robust_moves.proofs.Laws.{BumpStays, bump-stays, LockStays, lock-stays, After, cell-after}
 use Rattle.robust_recover.specs.declared.Rest.{Rest}
 use Rattle.robust_recover.specs.declared.Rest.the-variants as rest

@@ -1,5 +1,5 @@
 -- Of release: a closed place is read as itself, and what goes on from a sound place is sound. Assumes nothing.
-use Prim.Native.Nat.{ℕ, _+_, _-_, _<_, _^_}
+use Prim.Native.Nat.{ℕ, _-_, _<_, _^_}
 use mathlib.Core.Path.{_≡_, refl}
 use mathlib.Core.Bool.{true}
 use Rattle.unique_index_set_enums.specs.declared.ReleaseMode.{ReleaseMode}

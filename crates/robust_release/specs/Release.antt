@@ -2,8 +2,6 @@
 use Prim.Native.Nat.{ℕ, _+_, _-_, _%_, _^_}
 use mathlib.Core.Bool.{Bool, false, cond}
 use lib.Dec.{ltb}
-use Rattle.unique_index_set_enums.specs.declared.Index.{Index}
-use Rattle.unique_index_set_enums.specs.declared.OwnerId.{OwnerId}
 use Rattle.unique_index_set_enums.specs.declared.ReleaseMode.{ReleaseMode}
 use Rattle.unique_index_set_enums.specs.declared.ReleaseMode.the-variants.{Default, LockIfLastIndex}
 use Rattle.unique_index_set_enums.specs.declared.ReleaseState.the-variants.{Unlocked}

@@ -1,6 +1,6 @@
 -- What an accepted setup, start or step may go by. Assumes nothing.
 use Prim.Native.Nat.{ℕ, _≤_, _<_, _^_}
-use mathlib.Core.Path.{_≡_, refl}
+use mathlib.Core.Path.{_≡_}
 use mathlib.Core.Bool.{Bool, true, false}
 use lib.Dec.{ltb, eqb}
 use native.Mathlib.Omega.{arith}
@@ -17,7 +17,7 @@ use Rattle.thread_records.specs.declared.Record.{Record}
 use Rattle.thread_records.specs.Records.{notCalling}
 use Rattle.robust_places.specs.declared.Place.{Place}
 use Rattle.robust_places.specs.declared.Opened.{Opened}
-use Rattle.robust_places.specs.declared.Opened.the-variants.{At, Damaged}
+use Rattle.robust_places.specs.declared.Opened.the-variants.{At}
 use Rattle.robust_places.specs.Places.{sound, openedAt}
 use Rattle.robust_places.proofs.Laws.{opened-sound}
 use Rattle.robust_unique_index_set.specs.Steps.{tooShort, isDamaged, turnVerdict}

@@ -1,16 +1,15 @@
 -- The scope's corners of the robust set, as laws of the definitions that the contracts cite. Assumes nothing.
 use Prim.Native.Nat.{ℕ}
 use mathlib.Core.Path.{_≡_, refl}
-use mathlib.Core.Bool.{Bool, true, false, cond, not}
+use mathlib.Core.Bool.{Bool, true, false, cond}
 use lib.Dec.{leb, eqb}
-use borrow.Author.Tests.{eqb-true, not-true}
+use borrow.Author.Tests.{not-true}
 use Rattle.unique_index_set_enums.specs.declared.Index.{Index}
 use Rattle.unique_index_set_enums.specs.declared.Generation.{Generation}
 use Rattle.unique_index_set_enums.specs.declared.ReleaseState.{ReleaseState}
 use Rattle.unique_index_set_enums.specs.declared.ReleaseState.the-variants as state
 use Rattle.unique_index_set_enums.specs.declared.UniqueIndexSetAcquireFailure.the-variants.{IsLocked}
 use Rattle.unique_index_set_enums.specs.Kinds.{generation}
-use Rattle.unique_index_set_enums.specs.Numbers.{stateValue}
 use Rattle.unique_index_set_enums.specs.Robust.{lockedGeneration, isEmpty, isLockedAt, nextGeneration}
 use Rattle.unique_index_set_enums.proofs.Choice.{choose, both-true, second-true}
 use Rattle.calls.specs.declared.Answer.the-variants as answer
@@ -20,7 +19,6 @@ use Rattle.robust_moves.specs.declared.Access.the-variants as access
 use Rattle.robust_moves.specs.declared.Saw.{Saw}
 use Rattle.robust_moves.specs.declared.bump.BumpPlace.{BumpPlace}
 use Rattle.robust_moves.specs.declared.bump.BumpPlace.the-variants as bump
-use Rattle.robust_moves.specs.declared.bump.Bumped.{Bumped}
 use Rattle.robust_moves.specs.declared.bump.Bumped.the-variants as bumped
 use Rattle.robust_moves.specs.declared.count.CountPlace.{CountPlace}
 use Rattle.robust_moves.specs.declared.count.CountPlace.the-variants as count

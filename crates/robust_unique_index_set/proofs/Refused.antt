@@ -2,21 +2,15 @@
 -- record beside its list, which a recover uses up. Assumes nothing.
 use Prim.Native.Nat.{ℕ}
 use mathlib.Core.Path.{_≡_, refl, sym, subst}
-use mathlib.Core.Bool.{Bool, true, false}
+use mathlib.Core.Bool.{true}
 use lib.ListN.{length}
-use lib.Dec.{ltb, eqb}
 use Rattle.unique_index_set_enums.specs.declared.RecordNumber.{RecordNumber}
-use Rattle.unique_index_set_enums.specs.Limits.{robustCapacityLimit}
-use Rattle.calls.specs.declared.Answer.{Answer}
 use Rattle.calls.specs.declared.Refusal.the-variants as refusal
 use Rattle.calls.specs.declared.Request.{Request}
-use Rattle.calls.specs.declared.Verdict.{Verdict}
-use Rattle.calls.specs.declared.Verdict.the-variants.{Accepted, Refused}
+use Rattle.calls.specs.declared.Verdict.the-variants.{Accepted}
 use Rattle.calls.specs.Numbers.{callRead}
 use Rattle.calls.proofs.Order.{AllPassed, accepted, all-accepted}
-use Rattle.thread_records.specs.declared.OwnerList.{OwnerList}
 use Rattle.thread_records.specs.declared.Record.{Record}
-use Rattle.thread_records.specs.Records.{liveRecord, idleRecord}
 use Rattle.thread_records.specs.Effects.{Effect}
 use Rattle.thread_records.proofs.Effects.{Harmless, taken, taken-harmless, unchanged-harmless, judged-harmless}
 use Rattle.thread_records.proofs.Leaves.{Leaves, going-leaves, answered-leaves, judged-leaves}
@@ -26,17 +20,16 @@ use Rattle.robust_places.specs.declared.Opened.{Opened}
 use Rattle.robust_places.specs.declared.Opened.the-variants.{At, Damaged}
 use Rattle.robust_calls.specs.declared.resumes.Next.{Next}
 use Rattle.robust_calls.specs.declared.resumes.Next.the-variants.{Going, Answered}
-use Rattle.robust_calls.specs.declared.asks.Asked.{Asked}
 use Rattle.robust_calls.specs.declared.asks.Entry.{Entry}
 use Rattle.robust_calls.specs.declared.asks.Entry.the-variants as entry
-use Rattle.robust_calls.specs.Asks.{askedOf, isNotKnown, listDamaged, firstPlace}
+use Rattle.robust_calls.specs.Asks.{askedOf, listDamaged, firstPlace}
 use Rattle.robust_calls.specs.Resumes.{notedAt, listAfter}
 use Rattle.robust_calls.proofs.Laws.{EntrySound, asked-good, first-sound}
 use Rattle.robust_unique_index_set.specs.Steps.{Shared, leaves, threadAfter, progressAfter, reportAfter, sawAt, nextAt, sharedAfter, advanced, turnVerdict, openedIn, stepJudged, steppedFrom, stepOf}
 use Rattle.robust_unique_index_set.specs.Starts.{startTests, startVerdict, startJudged, enteredAt, startedFrom, startOf}
 use Rattle.robust_unique_index_set.specs.Setups.{setFresh, setupJudged, setupOf}
 use Rattle.robust_unique_index_set.specs.Drains.{notDrained, drainJudged, again, drainOf}
-use Rattle.robust_unique_index_set.proofs.Accepted.{Roomy, roomy, turn-passed}
+use Rattle.robust_unique_index_set.proofs.Accepted.{roomy, turn-passed}
 use Rattle.robust_unique_index_set.proofs.Stays.{Ready, stepped, accepted-ready, Serves, start-serves, ready, stays}
 
 pub next-taken : (n : Next) → taken (progressAfter n) ≡ true

@@ -1,8 +1,8 @@
 -- What a sound place says of its cell: its access is within the cells. Assumes nothing.
 use Prim.Native.Nat.{ℕ, _≤_, _<_}
 use mathlib.Core.Path.{_≡_, refl}
-use mathlib.Core.Bool.{true, false}
-use lib.Dec.{ltb, leb}
+use mathlib.Core.Bool.{true}
+use lib.Dec.{ltb}
 use native.Mathlib.Nat.{lt-of-lt-of-le}
 use borrow.Author.Tests.{ltb-true, lt-ltb}
 use Rattle.unique_index_set_enums.specs.Robust.{isEmpty, isLockedAt}

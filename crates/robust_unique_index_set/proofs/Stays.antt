@@ -1,15 +1,13 @@
 -- A step that is accepted is the advance from the place at which its record opens; where it goes on, its record is ready again.
 -- Assumes nothing.
-use Prim.Native.Nat.{ℕ, _≤_, _<_}
+use Prim.Native.Nat.{ℕ}
 use mathlib.Core.Path.{_≡_, refl}
 use mathlib.Core.Bool.{Bool, true, false, cond}
 use mathlib.Core.List.{List}
 use lib.ListN.{length, set, length-set}
 use lib.Dec.{ltb, eqb}
-use Rattle.unique_index_set_enums.specs.declared.Index.{Index}
 use Rattle.unique_index_set_enums.specs.declared.RecordNumber.{RecordNumber}
 use Rattle.unique_index_set_enums.specs.Limits.{robustCapacityLimit}
-use Rattle.unique_index_set_enums.proofs.Choice.{choose}
 use Rattle.calls.specs.declared.Request.{Request}
 use Rattle.calls.specs.declared.Verdict.the-variants.{Accepted}
 use Rattle.calls.specs.Numbers.{callRead}
@@ -27,14 +25,13 @@ use Rattle.robust_places.specs.declared.Opened.the-variants.{At, Damaged}
 use Rattle.robust_places.specs.Places.{sound, closedAt}
 use Rattle.robust_places.proofs.Laws.{place-read, read-busy, opened-closed, opened-sound}
 use Rattle.robust_calls.specs.declared.resumes.Next.{Next}
-use Rattle.robust_calls.specs.declared.resumes.Next.the-variants.{Going, Answered}
+use Rattle.robust_calls.specs.declared.resumes.Next.the-variants.{Going}
 use Rattle.robust_calls.specs.Asks.{askedOf, listDamaged}
-use Rattle.robust_calls.specs.Resumes.{accessAt}
 use Rattle.robust_calls.proofs.Laws.{NextStays, next-stays}
 use Rattle.robust_unique_index_set.specs.Accesses.{ownerIn, cellsAfter}
 use Rattle.robust_unique_index_set.specs.Steps.{Shared, sawAt, nextAt, sharedAfter, advanced, tooShort, isDamaged, turnVerdict, openedIn, stepJudged, stepOf}
 use Rattle.robust_unique_index_set.specs.Starts.{startTests, startVerdict, startJudged}
-use Rattle.robust_unique_index_set.proofs.Accepted.{Roomy, turn-passed, turn-roomy}
+use Rattle.robust_unique_index_set.proofs.Accepted.{turn-passed, turn-roomy}
 
 -- the record's step is accepted, and its call opens at a place
 pub record Ready (records : ℕ) (who : RecordNumber) (s : Shared) (t : Record) (p : Place) : Type 0 where

@@ -1,7 +1,7 @@
 -- The robust set's shared accesses: what each shows, and what it leaves of the generation and the cells. Which access each place makes
 -- is `accessAt` of robust_calls, the local work after it `resumedAt`.
 use Prim.Native.Nat.{ℕ}
-use mathlib.Core.Bool.{Bool, true, false, cond}
+use mathlib.Core.Bool.{Bool, true, cond}
 use mathlib.Core.List.{List}
 use lib.ListN.{getD, set}
 use lib.Dec.{ltb, eqb}

@@ -1,7 +1,6 @@
 -- A death and a list, beside whatever the records share: refused, they change nothing, and their numbers. Assumes nothing.
 use Prim.Native.Nat.{ℕ}
 use mathlib.Core.Path.{_≡_, refl, subst}
-use mathlib.Core.Bool.{false}
 use mathlib.Core.List.{List}
 use lib.Dec.{ltb}
 use Rattle.unique_index_set_enums.specs.declared.RecordNumber.{RecordNumber}
@@ -15,10 +14,10 @@ use Rattle.calls.specs.Order.{verdictOf}
 use Rattle.thread_records.specs.declared.OwnerList.{OwnerList}
 use Rattle.thread_records.specs.declared.Record.{Record}
 use Rattle.thread_records.specs.Records.{markedDead, notAlive, notIdle}
-use Rattle.thread_records.specs.Effects.{Effect, judged, recordJudged, beside}
+use Rattle.thread_records.specs.Effects.{judged, recordJudged, beside}
 use Rattle.thread_records.specs.Deaths.{deathTests, deathOf}
 use Rattle.thread_records.specs.Lists.{listed, listRefused, listTests, withList, writtenList, listOf}
-use Rattle.thread_records.proofs.Effects.{Unchanged, Harmless, judged-harmless, taken-harmless}
+use Rattle.thread_records.proofs.Effects.{Harmless, judged-harmless, taken-harmless}
 use Rattle.thread_records.proofs.Numbers.{RefusedAmong, FailedAmong, judged-among, taken-among, deathNumbers, death-failed, listNumbers, list-failed}
 
 from-judged : {S : Type 0} (v : Verdict) (s : S) (t after : Record) → judged v s t (beside s (recordJudged verdict.Accepted t after)) ≡ beside s (recordJudged v t after)

@@ -3,15 +3,13 @@ use Prim.Native.Nat.{ℕ}
 use mathlib.Core.Path.{_≡_, refl}
 use native.Mathlib.Omega.{arith}
 use Rattle.calls.specs.declared.Answer.{Answer}
-use Rattle.calls.specs.declared.Refusal.{Refusal}
-use Rattle.calls.specs.declared.Progress.{Progress}
 use Rattle.calls.specs.declared.Progress.the-variants.{Accepted, Answered, Refused}
 use Rattle.calls.specs.declared.Verdict.{Verdict}
 use Rattle.calls.specs.declared.Verdict.the-variants as verdict
 use Rattle.thread_records.specs.declared.OwnerList.{OwnerList}
 use Rattle.thread_records.specs.declared.Record.{Record}
 use Rattle.thread_records.specs.Records.{idleRecord}
-use Rattle.thread_records.specs.Effects.{Effect, unchanged, judged}
+use Rattle.thread_records.specs.Effects.{Effect, judged}
 
 -- where Opens says that a record opens, and `after` what an answer leaves of the list
 pub record Leaves {S : Type 0} (Opens : S → Record → Type 0) (after : Answer → OwnerList → OwnerList) (t : Record) (e : Effect S) : Type 0 where

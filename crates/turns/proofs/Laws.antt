@@ -29,7 +29,7 @@ use Rattle.turns.specs.declared.plain.PlainTurned.{PlainTurned}
 use Rattle.turns.specs.declared.robust.RobustTurned.{RobustTurned}
 use Rattle.turns.specs.Plain.{plainLeaves, plainTurnOf}
 use Rattle.turns.specs.Robust.{robustLeaves, robustTurnOf}
-use Rattle.turns.specs.Docks.{Table, Turned, named, turnIn, setupIn, Dock, turn, setUp}
+use Rattle.turns.specs.Docks.{Table, named, setupIn, Dock, turn, setUp}
 use Rattle.turns.proofs.Tables.{turn-unchanged, setup-unchanged, setup-each}
 
 pub plain-harmless : (records : ℕ) (who : RecordNumber) (o : Operation) (brought : OwnerList) (s : plain.Shared) (t : Record) → Harmless s t (plainTurnOf records who o brought s t .left)

@@ -16,7 +16,7 @@ use Rattle.calls.specs.Runs.{Run}
 use Rattle.thread_records.specs.declared.Record.{Record}
 use Rattle.thread_records.specs.Records.{emptyList, idleRecord}
 use Rattle.thread_records.specs.Effects.{Effect, judged}
-use Rattle.thread_records.proofs.Effects.{Unchanged, Harmless, taken}
+use Rattle.thread_records.proofs.Effects.{Harmless, taken}
 use Rattle.turns.specs.Docks.{Table, Turned, elsewhere, settled, named, turnedTable, turnIn, setupIn}
 
 same-map : (f : Record → Record) → ((t : Record) → f t ≡ t) → (records : List Record) → map f records ≡ records

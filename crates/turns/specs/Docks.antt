@@ -15,7 +15,6 @@ use Rattle.unique_index_set.specs.Setups as plainsetup
 use Rattle.robust_unique_index_set.specs.Steps as robust
 use Rattle.robust_unique_index_set.specs.Setups as robustsetup
 use Rattle.turns.specs.declared.Operation.{Operation}
-use Rattle.turns.specs.Turns.{aside}
 use Rattle.turns.specs.Plain.{plainTurnOf}
 use Rattle.turns.specs.Robust.{robustTurnOf}
 

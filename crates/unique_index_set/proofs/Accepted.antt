@@ -1,7 +1,7 @@
 -- What an accepted setup, start or step may go by. Assumes nothing.
 use Prim.Native.Nat.{ℕ, _+_, _≤_, _<_, _^_}
 use mathlib.Core.Path.{_≡_, refl}
-use mathlib.Core.Bool.{Bool, true, false, cond}
+use mathlib.Core.Bool.{true, false}
 use mathlib.Core.List.{List}
 use lib.ListN.{length}
 use lib.Dec.{ltb, leb, eqb}
@@ -21,7 +21,7 @@ use Rattle.thread_records.specs.declared.Record.{Record}
 use Rattle.thread_records.specs.Records.{notCalling}
 use Rattle.plain_places.specs.declared.Place.{Place}
 use Rattle.plain_places.specs.declared.Opened.{Opened}
-use Rattle.plain_places.specs.declared.Opened.the-variants.{At, Damaged}
+use Rattle.plain_places.specs.declared.Opened.the-variants.{At}
 use Rattle.plain_places.specs.Places.{sound, openedAt}
 use Rattle.plain_places.proofs.Laws.{opened-sound}
 use Rattle.plain_calls.specs.declared.asks.Asked.{Asked}

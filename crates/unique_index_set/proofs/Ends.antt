@@ -1,8 +1,8 @@
 -- One record run alone: an acquire ends within 5 further steps from any place, a release within 4, the two looks within 1. Assumes
 -- nothing.
-use Prim.Native.Nat.{ℕ, zero, suc, _+_, _≤_, _<_}
+use Prim.Native.Nat.{ℕ, zero, suc, _+_, _≤_}
 use mathlib.Core.Path.{_≡_, refl, sym, subst}
-use mathlib.Core.Bool.{Bool, true, false, cond}
+use mathlib.Core.Bool.{Bool, false, cond}
 use lib.Dec.{eqb, lit≤}
 use native.Mathlib.Omega.{arith}
 use native.Mathlib.Nat.{le-trans}
@@ -16,8 +16,7 @@ use Rattle.thread_records.specs.Effects.{Effect}
 use Rattle.thread_records.specs.Drains.{going, begun}
 use Rattle.plain_places.specs.declared.Place.{Place}
 use Rattle.plain_places.specs.declared.Place.the-variants.{AcquireLook, AcquireRead, AcquireExchange, AcquireWrite, ReleaseLook, ReleaseWrite, ReleaseExchange, BorrowedLook, LockedLook}
-use Rattle.plain_calls.specs.declared.resumes.Next.the-variants.{Going, Answered}
-use Rattle.unique_index_set.specs.Accesses.{accessAt, wordAfter}
+use Rattle.plain_calls.specs.declared.resumes.Next.the-variants.{Going}
 use Rattle.unique_index_set.specs.Steps.{Shared, nextAt, sharedAfter, stepJudged, stepOf}
 use Rattle.unique_index_set.specs.Drains.{again, drainOf}
 use Rattle.unique_index_set.proofs.Stays.{Ready, further, nearer, going-sound, ready-sound}

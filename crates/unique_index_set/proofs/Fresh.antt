@@ -2,14 +2,13 @@
 -- Assumes nothing.
 use Prim.Native.Nat.{ℕ, _+_, _≤_, _<_}
 use mathlib.Core.Path.{_≡_, refl}
-use mathlib.Core.List.{List}
 use native.Mathlib.Omega.{arith}
 use lib.ListN.{length, getD}
 use Rattle.calls.specs.declared.Verdict.the-variants.{Accepted}
 use Rattle.thread_records.specs.declared.Record.{Record}
 use Rattle.thread_records.proofs.Filled.{filled-length, filled-below, filled-beyond}
 use Rattle.unique_index_set.specs.Steps.{Shared}
-use Rattle.unique_index_set.specs.Setups.{nextIndex, freeEntry, fresh, setFresh, setupJudged, setupOf}
+use Rattle.unique_index_set.specs.Setups.{nextIndex, freeEntry, fresh, setupJudged, setupOf}
 use Rattle.unique_index_set.proofs.Accepted.{setup-roomy}
 
 pub record Fresh (capacity : ℕ) (before after : Shared) : Type 0 where

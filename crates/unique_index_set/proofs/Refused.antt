@@ -1,26 +1,18 @@
 -- What is refused changes nothing; a step or start that goes on leaves a record whose next step is accepted; an answer leaves the idle
 -- record beside its list. Assumes nothing.
-use Prim.Native.Nat.{ℕ, zero, suc, _+_}
-use mathlib.Core.Path.{_≡_, refl, sym, ap, subst, _∙_}
-use mathlib.Core.Bool.{Bool, true, false, cond}
-use mathlib.Core.List.{List}
-use native.Mathlib.Omega.{arith}
+use Prim.Native.Nat.{ℕ}
+use mathlib.Core.Path.{_≡_, refl, sym, subst, _∙_}
+use mathlib.Core.Bool.{true}
 use Rattle.unique_index_set_enums.specs.declared.RecordNumber.{RecordNumber}
 use Rattle.calls.specs.declared.Answer.{Answer}
-use Rattle.calls.specs.declared.Refusal.{Refusal}
 use Rattle.calls.specs.declared.Refusal.the-variants as refusal
-use Rattle.calls.specs.declared.Progress.{Progress}
 use Rattle.calls.specs.declared.Progress.the-variants as progress
 use Rattle.calls.specs.declared.Request.{Request}
-use Rattle.calls.specs.declared.Verdict.{Verdict}
-use Rattle.calls.specs.declared.Verdict.the-variants.{Accepted, Refused}
-use Rattle.calls.specs.Reports.{goesOn}
-use Rattle.calls.specs.Runs.{Run, runFrom}
+use Rattle.calls.specs.declared.Verdict.the-variants.{Accepted}
 use Rattle.thread_records.specs.declared.OwnerList.{OwnerList}
 use Rattle.thread_records.specs.declared.Record.{Record}
-use Rattle.thread_records.specs.Records.{liveRecord, idleRecord}
-use Rattle.thread_records.specs.Effects.{Effect, unchanged, judged}
-use Rattle.thread_records.specs.Drains.{going, begun, drained}
+use Rattle.thread_records.specs.Records.{liveRecord}
+use Rattle.thread_records.specs.Effects.{Effect, judged}
 use Rattle.thread_records.proofs.Effects.{Harmless, taken, taken-harmless, unchanged-harmless, judged-harmless}
 use Rattle.thread_records.proofs.Leaves.{Leaves, going-leaves, answered-leaves, judged-leaves}
 use Rattle.thread_records.proofs.Drains.{Keeps, keeps, DrainHarmless, drain-harmless}
@@ -36,14 +28,12 @@ use Rattle.plain_calls.specs.declared.marks.Mark.{Mark}
 use Rattle.plain_calls.specs.declared.marks.Mark.the-variants.{Nothing, As}
 use Rattle.plain_calls.specs.declared.asks.Asked.{Asked}
 use Rattle.plain_calls.specs.declared.asks.Asked.the-variants.{Acquire, Release, BorrowedIndices, IsLocked, NotKnown}
-use Rattle.unique_index_set.specs.declared.steps.Stepped.{Stepped}
-use Rattle.unique_index_set.specs.declared.drains.Drained.{Drained}
 use Rattle.unique_index_set.specs.Custodies.{marked}
 use Rattle.unique_index_set.specs.Steps.{Shared, shared, leaves, threadAfter, reportAfter, nextAt, sharedAfter, advanced, openedIn, stepJudged, steppedFrom, stepOf}
 use Rattle.plain_calls.specs.Asks.{askedOf}
 use Rattle.unique_index_set.specs.Starts.{startJudged, enteredAt, startedFrom, startOf}
 use Rattle.unique_index_set.specs.Setups.{setFresh, setupJudged, setupOf}
-use Rattle.unique_index_set.specs.Drains.{again, drainOf, runLeaves}
+use Rattle.unique_index_set.specs.Drains.{again, drainOf}
 use Rattle.unique_index_set.proofs.Accepted.{release-in}
 use Rattle.unique_index_set.proofs.Stays.{Ready, stepped, accepted-ready, Serves, start-serves, marked-serves, ready, stays}
 

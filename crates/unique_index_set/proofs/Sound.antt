@@ -1,9 +1,9 @@
 -- What a sound place says of the words and indices in it: its access is within the slots, its mark within the custody buffer.
 -- Assumes nothing.
-use Prim.Native.Nat.{ℕ, _+_, _≤_, _<_, _^_}
+use Prim.Native.Nat.{ℕ, _≤_, _<_}
 use mathlib.Core.Path.{_≡_, refl}
-use mathlib.Core.Bool.{Bool, true, false, cond}
-use lib.Dec.{ltb, eqb}
+use mathlib.Core.Bool.{Bool, true, cond}
+use lib.Dec.{ltb}
 use native.Mathlib.Omega.{arith}
 use native.Mathlib.Nat.{lt-trans, lt-of-lt-of-le}
 use borrow.Author.Tests.{ltb-true, lt-ltb, eqb-false}

@@ -1,7 +1,7 @@
 -- A step that is accepted is the advance from the place at which its record opens, and leaves a record that is idle or opens again:
 -- at a sound place that takes fewer further steps, where the record is alone. Assumes nothing.
-use Prim.Native.Nat.{ℕ, _+_, _≤_, _<_}
-use mathlib.Core.Path.{_≡_, refl, sym, _∙_}
+use Prim.Native.Nat.{ℕ, _<_}
+use mathlib.Core.Path.{_≡_, refl}
 use mathlib.Core.Bool.{Bool, true, false, cond}
 use mathlib.Core.List.{List}
 use lib.ListN.{length, length-set}
@@ -20,13 +20,12 @@ use Rattle.thread_records.specs.declared.OwnerList.{OwnerList}
 use Rattle.thread_records.specs.declared.Record.{Record}
 use Rattle.thread_records.specs.Records.{liveRecord}
 use Rattle.thread_records.proofs.Lent.{Lent, turn-lent, start-lent, lent-accepted}
-use Rattle.thread_records.specs.Effects.{Effect}
 use Rattle.head_details.specs.Word.{headOf, borrowedOf}
 use Rattle.plain_places.specs.declared.Place.{Place}
 use Rattle.plain_places.specs.declared.Place.the-variants.{AcquireLook, AcquireRead, AcquireExchange, AcquireWrite, ReleaseLook, ReleaseWrite, ReleaseExchange, BorrowedLook, LockedLook}
 use Rattle.plain_places.specs.declared.Opened.{Opened}
 use Rattle.plain_places.specs.declared.Opened.the-variants.{At, Damaged}
-use Rattle.plain_places.specs.Places.{mayAcquire, mayRelease, sound, openedAt, closedAt}
+use Rattle.plain_places.specs.Places.{mayAcquire, mayRelease, sound, closedAt}
 use Rattle.plain_places.proofs.Laws.{opened-closed, opened-sound}
 use Rattle.unique_index_set.specs.declared.accesses.Access.{Access}
 use Rattle.unique_index_set.specs.declared.accesses.Access.the-variants.{Look, Exchange, Read, Write}

@@ -1,7 +1,7 @@
 -- The plain set's shared accesses, to be read against unique_index_set.rs: `accessAt` is the one shared access of each place, `sawOf`,
 -- `wordAfter` and `slotsAfter` what that access shows and does. The local work after it is `resumedAt` of plain_calls.
 use Prim.Native.Nat.{ℕ, _+_, _-_, _%_, _^_}
-use mathlib.Core.Bool.{Bool, true, false, cond}
+use mathlib.Core.Bool.{Bool, true, cond}
 use mathlib.Core.List.{List}
 use lib.ListN.{getD, set}
 use lib.Dec.{ltb, eqb}

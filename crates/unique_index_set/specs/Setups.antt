@@ -2,7 +2,6 @@
 -- list empty. Entries beyond stay.
 use Prim.Native.Nat.{ℕ, _+_}
 use mathlib.Core.Bool.{Bool, true, cond}
-use mathlib.Core.List.{List}
 use lib.ListN.{length}
 use lib.Dec.{ltb, leb, eqb}
 use Rattle.unique_index_set_enums.specs.Limits.{plainCapacityLimit, recordsLimit}

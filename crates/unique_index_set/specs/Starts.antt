@@ -1,10 +1,10 @@
 -- The start of a call: it enters at the call's first place and touches no shared word. A release's start marks its index as being
 -- given back.
 use Prim.Native.Nat.{ℕ}
-use mathlib.Core.Bool.{Bool, true, false, cond, not}
+use mathlib.Core.Bool.{Bool, false, not}
 use mathlib.Core.List.{List}
 use lib.ListN.{length}
-use lib.Dec.{ltb, leb, eqb}
+use lib.Dec.{ltb, eqb}
 use Rattle.unique_index_set_enums.specs.declared.RecordNumber.{RecordNumber}
 use Rattle.unique_index_set_enums.specs.Limits.{plainCapacityLimit}
 use Rattle.calls.specs.declared.Request.{Request}

@@ -2,15 +2,9 @@ use native.Mathlib.Omega.{arith}
 use borrow.Author.Needs.{needs}
 use Prim.Native.Nat.{_-_}
 use lib.ListN.{length}
-use mathlib.Core.Path.{_≡_, refl}
+use mathlib.Core.Path.{_≡_}
 use Rattle.robust_limits.proofs.run.Statement.{statement}
 use Rattle.robust_limits.proofs.run.Tie as tie
-use Rattle.robust_limits.proofs.run.Reads as reads
-use Rattle.robust_limits.proofs.run.Lts as lts
-use Rattle.call_lines.proofs.read_line.Reads as read-line-reads
-use Rattle.robust_limits.proofs.telling.tell_comment.Reads as tell-comment-reads
-use Rattle.robust_limits.proofs.told.Reads as told-reads
-use Rattle.robust_limits.proofs.worlds.fresh_world.Reads as fresh-world-reads
 
 abbrev Inv-loop : tie.InvT-loop
 Inv-loop input cells₀ before₀ world₀ at₀ cells before world at = (length cells ≡ length cells₀) × (length before ≡ length before₀)
@@ -18,51 +12,39 @@ Inv-loop input cells₀ before₀ world₀ at₀ cells before world at = (length
 abbrev μ-loop : tie.MeasureT-loop
 μ-loop input cells₀ before₀ world₀ at₀ cells before world at = length input - at
 
--- src/main.rt:39:9
 fresh-world-requires : tie.Need-fresh-world-requires Inv-loop μ-loop
 fresh-world-requires c κs = search needs
 
--- src/main.rt:41:5
 loop-holds : tie.Need-loop-holds Inv-loop μ-loop
 loop-holds c = search needs
 
--- src/main.rt:42:13
 read-line-requires : tie.Need-read-line-requires Inv-loop μ-loop
 read-line-requires c κs = search needs
 
--- src/main.rt:44:13
 tell-comment-requires : tie.Need-tell-comment-requires Inv-loop μ-loop
 tell-comment-requires c κs = search needs
 
--- src/main.rt:46:13
 told-requires : tie.Need-told-requires Inv-loop μ-loop
 told-requires c κs = search needs
 
--- src/main.rt:41:5
 loop-less : tie.Need-loop-less Inv-loop μ-loop
 loop-less c = let t = c .before .before .before .before .loop-test .taken in let k = c .before .before .before .read-line .ensures t in omega (arith, t, k)
 
--- src/main.rt:41:5
 loop-again : tie.Need-loop-again Inv-loop μ-loop
 loop-again c = search needs
 
--- src/main.rt:41:5
 loop-less-2 : tie.Need-loop-less-2 Inv-loop μ-loop
 loop-less-2 c = let t = c .before .before .before .before .before .before .before .before .before .before .loop-test .taken in let k = c .before .before .before .before .before .before .before .before .before .read-line .ensures t in omega (arith, t, k)
 
--- src/main.rt:41:5
 loop-again-2 : tie.Need-loop-again-2 Inv-loop μ-loop
 loop-again-2 c = search needs
 
--- src/main.rt:38:1
 same-length : tie.Need-same-length Inv-loop μ-loop
 same-length c = search needs
 
--- src/main.rt:38:1
 same-length-2 : tie.Need-same-length-2 Inv-loop μ-loop
 same-length-2 c = search needs
 
--- src/main.rt:38:1
 returns : tie.Need-returns Inv-loop μ-loop
 returns c = search needs
 

@@ -2,25 +2,17 @@ use Rattle.robust_places.specs.Places.{listSound}
 use borrow.Author.Needs.{needs}
 use Rattle.robust_places.proofs.is_list_sound.Statement.{statement}
 use Rattle.robust_places.proofs.is_list_sound.Tie as tie
-use Rattle.robust_places.proofs.is_list_sound.Reads as reads
-use Rattle.robust_places.proofs.is_list_sound.Lts as lts
-use Rattle.robust_recover.proofs.reads_list.Reads as reads-list-reads
-use Rattle.thread_records.proofs.is_good_list.Reads as is-good-list-reads
 
--- src/lib.rt:62:8
 reads-list-requires : tie.Need-reads-list-requires
 reads-list-requires c κs = search needs
 
--- src/lib.rt:63:9
 is-good-list-requires : tie.Need-is-good-list-requires
 is-good-list-requires c κs = search needs
 
--- src/lib.rt:63:9
 returns : tie.Need-returns
 unfolding listSound
 returns c = simp (c .is-good-list .ensures, ← c .before .before .reads-list .ensures, c .before .if1 .taken)
 
--- src/lib.rt:59:1
 returns-2 : tie.Need-returns-2
 unfolding listSound
 returns-2 c = simp (← c .before .reads-list .ensures, c .if1 .left)

@@ -1,88 +1,61 @@
 use borrow.Author.Needs.{needs}
 use Rattle.robust_places.proofs.is_sound.Statement.{statement}
 use Rattle.robust_places.proofs.is_sound.Tie as tie
-use Rattle.robust_places.proofs.is_sound.Reads as reads
-use Rattle.robust_places.proofs.is_sound.Lts as lts
-use Rattle.robust_acquire.proofs.is_acquire_sound.Reads as is-acquire-sound-reads
-use Rattle.robust_find.proofs.is_find_sound.Reads as is-find-sound-reads
-use Rattle.robust_moves.proofs.is_count_sound.Reads as is-count-sound-reads
-use Rattle.robust_places.proofs.is_list_sound.Reads as is-list-sound-reads
-use Rattle.robust_recover.proofs.is_recover_sound.Reads as is-recover-sound-reads
-use Rattle.robust_release.proofs.is_release_sound.Reads as is-release-sound-reads
 
--- src/lib.rt:73:24
 enum-known-place : tie.Need-enum-known-place
 enum-known-place c = search needs
 
--- src/lib.rt:73:36
 is-acquire-sound-requires : tie.Need-is-acquire-sound-requires
 is-acquire-sound-requires c κs = search needs
 
--- src/lib.rt:74:24
 enum-known-place-2 : tie.Need-enum-known-place-2
 enum-known-place-2 c = search needs
 
--- src/lib.rt:74:36
 is-release-sound-requires : tie.Need-is-release-sound-requires
 is-release-sound-requires c κs = search needs
 
--- src/lib.rt:75:25
 enum-known-place-3 : tie.Need-enum-known-place-3
 enum-known-place-3 c = search needs
 
--- src/lib.rt:75:35
 is-count-sound-requires : tie.Need-is-count-sound-requires
 is-count-sound-requires c κs = search needs
 
--- src/lib.rt:76:30
 enum-told : tie.Need-enum-told
 enum-told c = search needs
 
--- src/lib.rt:77:21
 enum-known-place-4 : tie.Need-enum-known-place-4
 enum-known-place-4 c = search needs
 
--- src/lib.rt:77:30
 is-find-sound-requires : tie.Need-is-find-sound-requires
 is-find-sound-requires c κs = search needs
 
--- src/lib.rt:78:24
 enum-known-place-5 : tie.Need-enum-known-place-5
 enum-known-place-5 c = search needs
 
--- src/lib.rt:79:16
 is-recover-sound-requires : tie.Need-is-recover-sound-requires
 is-recover-sound-requires c κs = search needs
 
--- src/lib.rt:80:17
 is-list-sound-requires : tie.Need-is-list-sound-requires
 is-list-sound-requires c κs = search needs
 
--- src/lib.rt:80:17
 returns : tie.Need-returns
 returns c = simp (c .is-list-sound .ensures, ← c .before .before .is-recover-sound .ensures, c .before .if1 .taken, c .before .before .before .before .place5 .given .1)
 
--- src/lib.rt:69:1
 returns-2 : tie.Need-returns-2
 returns-2 c = simp (c .is-acquire-sound .ensures, c .before .before .place .given .1)
 
--- src/lib.rt:69:1
 returns-3 : tie.Need-returns-3
 returns-3 c = simp (c .is-release-sound .ensures, c .before .before .place2 .given .1)
 
--- src/lib.rt:69:1
 returns-4 : tie.Need-returns-4
 returns-4 c = simp (c .is-count-sound .ensures, c .before .before .place3 .given .1)
 
--- src/lib.rt:69:1
 returns-5 : tie.Need-returns-5
 returns-5 c = search needs
 
--- src/lib.rt:69:1
 returns-6 : tie.Need-returns-6
 returns-6 c = simp (c .is-find-sound .ensures, c .before .before .place4 .given .1)
 
--- src/lib.rt:69:1
 returns-7 : tie.Need-returns-7
 returns-7 c = simp (← c .before .is-recover-sound .ensures, c .if1 .left, c .before .before .before .place5 .given .1)
 

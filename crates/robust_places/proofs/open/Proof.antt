@@ -2,38 +2,27 @@ use Rattle.robust_places.specs.Places.{openedAt}
 use borrow.Author.Needs.{needs}
 use Rattle.robust_places.proofs.open.Statement.{statement}
 use Rattle.robust_places.proofs.open.Tie as tie
-use Rattle.robust_places.proofs.open.Reads as reads
-use Rattle.robust_places.proofs.open.Lts as lts
-use Rattle.robust_places.proofs.is_sound.Reads as is-sound-reads
-use Rattle.robust_places.proofs.read_place.Reads as read-place-reads
 
--- src/lib.rt:160:9
 read-place-requires : tie.Need-read-place-requires
 read-place-requires c κs = search needs
 
--- src/lib.rt:162:31
 enum-told : tie.Need-enum-told
 enum-told c = search needs
 
--- src/lib.rt:163:26
 enum-known-read : tie.Need-enum-known-read
 enum-known-read c = search needs
 
--- src/lib.rt:164:16
 is-sound-requires : tie.Need-is-sound-requires
 is-sound-requires c κs = search needs
 
--- src/lib.rt:165:17
 returns : tie.Need-returns
 unfolding openedAt
 returns c = simp (← c .before .is-sound .ensures, ← c .before .before .before .before .before .read-place .ensures, c .if1 .taken, c .before .before .before .read .given .1)
 
--- src/lib.rt:157:1
 returns-2 : tie.Need-returns-2
 unfolding openedAt
 returns-2 c = simp (← c .before .before .read-place .ensures, c .enum-told .given .1)
 
--- src/lib.rt:157:1
 returns-3 : tie.Need-returns-3
 unfolding openedAt
 returns-3 c = simp (← c .before .is-sound .ensures, ← c .before .before .before .before .before .read-place .ensures, c .if1 .left, c .before .before .before .read .given .1)

@@ -2,28 +2,20 @@ use Rattle.robust_places.specs.Places.{acquirePlaceRead}
 use borrow.Author.Needs.{needs}
 use Rattle.robust_places.proofs.read_acquire_place.Statement.{statement}
 use Rattle.robust_places.proofs.read_acquire_place.Tie as tie
-use Rattle.robust_places.proofs.read_acquire_place.Reads as reads
-use Rattle.robust_places.proofs.read_acquire_place.Lts as lts
-use Rattle.robust_acquire.proofs.read_acquire.Reads as read-acquire-reads
 
--- src/lib.rt:90:9
 read-acquire-requires : tie.Need-read-acquire-requires
 read-acquire-requires c κs = search needs
 
--- src/lib.rt:92:28
 enum-known-read : tie.Need-enum-known-read
 enum-known-read c = search needs
 
--- src/lib.rt:93:33
 enum-told : tie.Need-enum-told
 enum-told c = search needs
 
--- src/lib.rt:87:1
 returns : tie.Need-returns
 unfolding acquirePlaceRead
 returns c = simp (← c .before .before .before .read-acquire .ensures, c .before .read .given .1)
 
--- src/lib.rt:87:1
 returns-2 : tie.Need-returns-2
 unfolding acquirePlaceRead
 returns-2 c = simp (← c .before .before .read-acquire .ensures, c .enum-told .given .1)

@@ -2,28 +2,20 @@ use Rattle.robust_places.specs.Places.{borrowedPlaceRead}
 use borrow.Author.Needs.{needs}
 use Rattle.robust_places.proofs.read_borrowed_place.Statement.{statement}
 use Rattle.robust_places.proofs.read_borrowed_place.Tie as tie
-use Rattle.robust_places.proofs.read_borrowed_place.Reads as reads
-use Rattle.robust_places.proofs.read_borrowed_place.Lts as lts
-use Rattle.robust_moves.proofs.read_count.Reads as read-count-reads
 
--- src/lib.rt:111:9
 read-count-requires : tie.Need-read-count-requires
 read-count-requires c κs = search needs
 
--- src/lib.rt:113:26
 enum-known-read : tie.Need-enum-known-read
 enum-known-read c = search needs
 
--- src/lib.rt:114:31
 enum-told : tie.Need-enum-told
 enum-told c = search needs
 
--- src/lib.rt:107:1
 returns : tie.Need-returns
 unfolding borrowedPlaceRead
 returns c = simp (← c .before .before .before .read-count .ensures, c .before .read .given .1)
 
--- src/lib.rt:107:1
 returns-2 : tie.Need-returns-2
 unfolding borrowedPlaceRead
 returns-2 c = simp (← c .before .before .read-count .ensures, c .enum-told .given .1)

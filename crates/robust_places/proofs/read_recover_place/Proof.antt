@@ -2,28 +2,20 @@ use Rattle.robust_places.specs.Places.{recoverPlaceRead}
 use borrow.Author.Needs.{needs}
 use Rattle.robust_places.proofs.read_recover_place.Statement.{statement}
 use Rattle.robust_places.proofs.read_recover_place.Tie as tie
-use Rattle.robust_places.proofs.read_recover_place.Reads as reads
-use Rattle.robust_places.proofs.read_recover_place.Lts as lts
-use Rattle.robust_recover.proofs.read_recover.Reads as read-recover-reads
 
--- src/lib.rt:121:9
 read-recover-requires : tie.Need-read-recover-requires
 read-recover-requires c κs = search needs
 
--- src/lib.rt:123:28
 enum-known-read : tie.Need-enum-known-read
 enum-known-read c = search needs
 
--- src/lib.rt:124:33
 enum-told : tie.Need-enum-told
 enum-told c = search needs
 
--- src/lib.rt:118:1
 returns : tie.Need-returns
 unfolding recoverPlaceRead
 returns c = simp (← c .before .before .before .read-recover .ensures, c .before .read .given .1)
 
--- src/lib.rt:118:1
 returns-2 : tie.Need-returns-2
 unfolding recoverPlaceRead
 returns-2 c = simp (← c .before .before .read-recover .ensures, c .enum-told .given .1)

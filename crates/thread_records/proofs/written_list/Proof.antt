@@ -1,43 +1,31 @@
 use borrow.Author.Needs.{needs}
 use Rattle.thread_records.proofs.written_list.Statement.{statement}
 use Rattle.thread_records.proofs.written_list.Tie as tie
-use Rattle.thread_records.proofs.written_list.Reads as reads
-use Rattle.thread_records.proofs.written_list.Lts as lts
-use Rattle.thread_records.proofs.owner_within.Reads as owner-within-reads
 
--- src/lib.rt:324:13
 owner-within-requires : tie.Need-owner-within-requires
 owner-within-requires c κs = search needs
 
--- src/lib.rt:325:13
 owner-within-requires-2 : tie.Need-owner-within-requires-2
 owner-within-requires-2 c κs = search needs
 
--- src/lib.rt:326:13
 owner-within-requires-3 : tie.Need-owner-within-requires-3
 owner-within-requires-3 c κs = search needs
 
--- src/lib.rt:327:13
 owner-within-requires-4 : tie.Need-owner-within-requires-4
 owner-within-requires-4 c κs = search needs
 
--- src/lib.rt:328:13
 owner-within-requires-5 : tie.Need-owner-within-requires-5
 owner-within-requires-5 c κs = search needs
 
--- src/lib.rt:329:13
 owner-within-requires-6 : tie.Need-owner-within-requires-6
 owner-within-requires-6 c κs = search needs
 
--- src/lib.rt:330:13
 owner-within-requires-7 : tie.Need-owner-within-requires-7
 owner-within-requires-7 c κs = search needs
 
--- src/lib.rt:331:13
 owner-within-requires-8 : tie.Need-owner-within-requires-8
 owner-within-requires-8 c κs = search needs
 
--- src/lib.rt:318:1
 returns : tie.Need-returns
 returns c = simp (c .owner-within8 .ensures, c .before .owner-within7 .ensures, c .before .before .owner-within6 .ensures, c .before .before .before .owner-within5 .ensures, c .before .before .before .before .owner-within4 .ensures, c .before .before .before .before .before .owner-within3 .ensures, c .before .before .before .before .before .before .owner-within2 .ensures, c .before .before .before .before .before .before .before .owner-within .ensures)
 

@@ -1,17 +1,12 @@
-use borrow.Author.Tests.{ne-eqb}
-use borrow.Author.Tests.{eq-eqb}
+use borrow.Author.Tests.{ne-eqb, eq-eqb}
 use Rattle.robust_calls.specs.Asks.{askedFind}
 use Rattle.robust_calls.proofs.asks.asked_find.Statement.{statement}
 use Rattle.robust_calls.proofs.asks.asked_find.Tie as tie
-use Rattle.robust_calls.proofs.asks.asked_find.Reads as reads
-use Rattle.robust_calls.proofs.asks.asked_find.Lts as lts
 
--- src/asks.rt:49:9
 returns : tie.Need-returns
 unfolding askedFind
 returns c = simp (eq-eqb _ _ (c .if1 .taken))
 
--- src/asks.rt:44:1
 returns-2 : tie.Need-returns-2
 unfolding askedFind
 returns-2 c = simp (ne-eqb _ _ (c .if1 .left))

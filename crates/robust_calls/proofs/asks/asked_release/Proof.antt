@@ -2,28 +2,20 @@ use Rattle.robust_calls.specs.Asks.{askedRelease}
 use borrow.Author.Needs.{needs}
 use Rattle.robust_calls.proofs.asks.asked_release.Statement.{statement}
 use Rattle.robust_calls.proofs.asks.asked_release.Tie as tie
-use Rattle.robust_calls.proofs.asks.asked_release.Reads as reads
-use Rattle.robust_calls.proofs.asks.asked_release.Lts as lts
-use Rattle.unique_index_set_enums.proofs.read_mode.Reads as read-mode-reads
 
--- src/asks.rt:37:9
 read-mode-requires : tie.Need-read-mode-requires
 read-mode-requires c κs = search needs
 
--- src/asks.rt:39:25
 enum-known-mode : tie.Need-enum-known-mode
 enum-known-mode c = search needs
 
--- src/asks.rt:40:30
 enum-told : tie.Need-enum-told
 enum-told c = search needs
 
--- src/asks.rt:33:1
 returns : tie.Need-returns
 unfolding askedRelease
 returns c = simp (← c .before .before .before .read-mode .ensures, c .before .mode .given .1)
 
--- src/asks.rt:33:1
 returns-2 : tie.Need-returns-2
 unfolding askedRelease
 returns-2 c = simp (← c .before .before .read-mode .ensures, c .enum-told .given .1)

@@ -1,62 +1,46 @@
 use borrow.Author.Needs.{needs}
 use Rattle.robust_calls.proofs.asks.first_place.Statement.{statement}
 use Rattle.robust_calls.proofs.asks.first_place.Tie as tie
-use Rattle.robust_calls.proofs.asks.first_place.Reads as reads
-use Rattle.robust_calls.proofs.asks.first_place.Lts as lts
 
--- src/asks.rt:158:24
 enum-known-asked : tie.Need-enum-known-asked
 enum-known-asked c = search needs
 
--- src/asks.rt:159:24
 enum-known-asked-2 : tie.Need-enum-known-asked-2
 enum-known-asked-2 c = search needs
 
--- src/asks.rt:164:61
 enum-told : tie.Need-enum-told
 enum-told c = search needs
 
--- src/asks.rt:165:38
 enum-told-2 : tie.Need-enum-told-2
 enum-told-2 c = search needs
 
--- src/asks.rt:166:21
 enum-known-asked-3 : tie.Need-enum-known-asked-3
 enum-known-asked-3 c = search needs
 
--- src/asks.rt:172:24
 enum-known-asked-4 : tie.Need-enum-known-asked-4
 enum-known-asked-4 c = search needs
 
--- src/asks.rt:173:28
 enum-told-3 : tie.Need-enum-told-3
 enum-told-3 c = search needs
 
--- src/asks.rt:154:1
 returns : tie.Need-returns
 returns c = simp (c .before .asked .given .1)
 
--- src/asks.rt:154:1
 returns-2 : tie.Need-returns-2
 returns-2 c = simp (c .before .asked2 .given .1)
 
--- src/asks.rt:154:1
 returns-3 : tie.Need-returns-3
 returns-3 c = simp (c .enum-told .given .1)
 
--- src/asks.rt:154:1
 returns-4 : tie.Need-returns-4
 returns-4 c = simp (c .enum-told2 .given .1)
 
--- src/asks.rt:154:1
 returns-5 : tie.Need-returns-5
 returns-5 c = simp (c .before .asked3 .given .1)
 
--- src/asks.rt:154:1
 returns-6 : tie.Need-returns-6
 returns-6 c = simp (c .before .asked4 .given .1)
 
--- src/asks.rt:154:1
 returns-7 : tie.Need-returns-7
 returns-7 c = search needs
 

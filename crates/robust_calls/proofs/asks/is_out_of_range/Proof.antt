@@ -1,62 +1,46 @@
 use borrow.Author.Needs.{needs}
 use Rattle.robust_calls.proofs.asks.is_out_of_range.Statement.{statement}
 use Rattle.robust_calls.proofs.asks.is_out_of_range.Tie as tie
-use Rattle.robust_calls.proofs.asks.is_out_of_range.Reads as reads
-use Rattle.robust_calls.proofs.asks.is_out_of_range.Lts as lts
 
--- src/asks.rt:120:30
 enum-told : tie.Need-enum-told
 enum-told c = search needs
 
--- src/asks.rt:121:24
 enum-known-asked : tie.Need-enum-known-asked
 enum-known-asked c = search needs
 
--- src/asks.rt:122:35
 enum-told-2 : tie.Need-enum-told-2
 enum-told-2 c = search needs
 
--- src/asks.rt:123:28
 enum-told-3 : tie.Need-enum-told-3
 enum-told-3 c = search needs
 
--- src/asks.rt:124:30
 enum-told-4 : tie.Need-enum-told-4
 enum-told-4 c = search needs
 
--- src/asks.rt:125:30
 enum-told-5 : tie.Need-enum-told-5
 enum-told-5 c = search needs
 
--- src/asks.rt:126:28
 enum-told-6 : tie.Need-enum-told-6
 enum-told-6 c = search needs
 
--- src/asks.rt:116:1
 returns : tie.Need-returns
 returns c = search needs
 
--- src/asks.rt:116:1
 returns-2 : tie.Need-returns-2
 returns-2 c = simp (c .before .before .asked .given .1)
 
--- src/asks.rt:116:1
 returns-3 : tie.Need-returns-3
 returns-3 c = search needs
 
--- src/asks.rt:116:1
 returns-4 : tie.Need-returns-4
 returns-4 c = search needs
 
--- src/asks.rt:116:1
 returns-5 : tie.Need-returns-5
 returns-5 c = search needs
 
--- src/asks.rt:116:1
 returns-6 : tie.Need-returns-6
 returns-6 c = search needs
 
--- src/asks.rt:116:1
 returns-7 : tie.Need-returns-7
 returns-7 c = search needs
 

@@ -1,75 +1,55 @@
 use borrow.Author.Needs.{needs}
 use Rattle.robust_calls.proofs.asks.is_owner_empty.Statement.{statement}
 use Rattle.robust_calls.proofs.asks.is_owner_empty.Tie as tie
-use Rattle.robust_calls.proofs.asks.is_owner_empty.Reads as reads
-use Rattle.robust_calls.proofs.asks.is_owner_empty.Lts as lts
-use Rattle.unique_index_set_enums.proofs.OwnerId.is_empty.Reads as is-empty-reads
 
--- src/asks.rt:106:24
 enum-known-asked : tie.Need-enum-known-asked
 enum-known-asked c = search needs
 
--- src/asks.rt:106:34
 is-empty-requires : tie.Need-is-empty-requires
 is-empty-requires c κs = search needs
 
--- src/asks.rt:107:27
 enum-known-asked-2 : tie.Need-enum-known-asked-2
 enum-known-asked-2 c = search needs
 
--- src/asks.rt:107:40
 is-empty-requires-2 : tie.Need-is-empty-requires-2
 is-empty-requires-2 c κs = search needs
 
--- src/asks.rt:108:35
 enum-told : tie.Need-enum-told
 enum-told c = search needs
 
--- src/asks.rt:109:28
 enum-told-2 : tie.Need-enum-told-2
 enum-told-2 c = search needs
 
--- src/asks.rt:110:21
 enum-known-asked-3 : tie.Need-enum-known-asked-3
 enum-known-asked-3 c = search needs
 
--- src/asks.rt:110:34
 is-empty-requires-3 : tie.Need-is-empty-requires-3
 is-empty-requires-3 c κs = search needs
 
--- src/asks.rt:111:30
 enum-told-3 : tie.Need-enum-told-3
 enum-told-3 c = search needs
 
--- src/asks.rt:112:28
 enum-told-4 : tie.Need-enum-told-4
 enum-told-4 c = search needs
 
--- src/asks.rt:102:1
 returns : tie.Need-returns
 returns c = simp (c .is-empty .ensures, c .before .before .asked .given .1)
 
--- src/asks.rt:102:1
 returns-2 : tie.Need-returns-2
 returns-2 c = simp (c .is-empty2 .ensures, c .before .before .asked2 .given .1)
 
--- src/asks.rt:102:1
 returns-3 : tie.Need-returns-3
 returns-3 c = search needs
 
--- src/asks.rt:102:1
 returns-4 : tie.Need-returns-4
 returns-4 c = search needs
 
--- src/asks.rt:102:1
 returns-5 : tie.Need-returns-5
 returns-5 c = simp (c .is-empty3 .ensures, c .before .before .asked3 .given .1)
 
--- src/asks.rt:102:1
 returns-6 : tie.Need-returns-6
 returns-6 c = search needs
 
--- src/asks.rt:102:1
 returns-7 : tie.Need-returns-7
 returns-7 c = search needs
 

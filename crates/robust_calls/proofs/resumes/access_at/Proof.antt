@@ -1,79 +1,55 @@
 use borrow.Author.Needs.{needs}
 use Rattle.robust_calls.proofs.resumes.access_at.Statement.{statement}
 use Rattle.robust_calls.proofs.resumes.access_at.Tie as tie
-use Rattle.robust_calls.proofs.resumes.access_at.Reads as reads
-use Rattle.robust_calls.proofs.resumes.access_at.Lts as lts
-use Rattle.robust_acquire.proofs.acquire_access.Reads as acquire-access-reads
-use Rattle.robust_find.proofs.find_access.Reads as find-access-reads
-use Rattle.robust_moves.proofs.count_access.Reads as count-access-reads
-use Rattle.robust_recover.proofs.recover_access.Reads as recover-access-reads
-use Rattle.robust_release.proofs.release_access.Reads as release-access-reads
 
--- src/resumes.rt:39:24
 enum-known-place : tie.Need-enum-known-place
 enum-known-place c = search needs
 
--- src/resumes.rt:39:36
 acquire-access-requires : tie.Need-acquire-access-requires
 acquire-access-requires c κs = search needs
 
--- src/resumes.rt:40:24
 enum-known-place-2 : tie.Need-enum-known-place-2
 enum-known-place-2 c = search needs
 
--- src/resumes.rt:40:36
 release-access-requires : tie.Need-release-access-requires
 release-access-requires c κs = search needs
 
--- src/resumes.rt:41:25
 enum-known-place-3 : tie.Need-enum-known-place-3
 enum-known-place-3 c = search needs
 
--- src/resumes.rt:41:35
 count-access-requires : tie.Need-count-access-requires
 count-access-requires c κs = search needs
 
--- src/resumes.rt:42:30
 enum-told : tie.Need-enum-told
 enum-told c = search needs
 
--- src/resumes.rt:43:21
 enum-known-place-4 : tie.Need-enum-known-place-4
 enum-known-place-4 c = search needs
 
--- src/resumes.rt:43:30
 find-access-requires : tie.Need-find-access-requires
 find-access-requires c κs = search needs
 
--- src/resumes.rt:44:24
 enum-known-place-5 : tie.Need-enum-known-place-5
 enum-known-place-5 c = search needs
 
--- src/resumes.rt:44:36
 recover-access-requires : tie.Need-recover-access-requires
 recover-access-requires c κs = search needs
 
--- src/resumes.rt:35:1
 returns : tie.Need-returns
 returns c = search needs
 
--- src/resumes.rt:35:1
 returns-2 : tie.Need-returns-2
 returns-2 c = search needs
 
--- src/resumes.rt:35:1
 returns-3 : tie.Need-returns-3
 returns-3 c = search needs
 
--- src/resumes.rt:35:1
 returns-4 : tie.Need-returns-4
 returns-4 c = search needs
 
--- src/resumes.rt:35:1
 returns-5 : tie.Need-returns-5
 returns-5 c = simp (c .find-access .ensures, c .before .before .place4 .given .1)
 
--- src/resumes.rt:35:1
 returns-6 : tie.Need-returns-6
 returns-6 c = search needs
 

@@ -1,30 +1,22 @@
 use borrow.Author.Needs.{needs}
 use Rattle.robust_calls.proofs.resumes.acquire_next.Statement.{statement}
 use Rattle.robust_calls.proofs.resumes.acquire_next.Tie as tie
-use Rattle.robust_calls.proofs.resumes.acquire_next.Reads as reads
-use Rattle.robust_calls.proofs.resumes.acquire_next.Lts as lts
 
--- src/resumes.rt:52:26
 enum-known-acquiring : tie.Need-enum-known-acquiring
 enum-known-acquiring c = search needs
 
--- src/resumes.rt:53:29
 enum-known-acquiring-2 : tie.Need-enum-known-acquiring-2
 enum-known-acquiring-2 c = search needs
 
--- src/resumes.rt:54:27
 enum-known-acquiring-3 : tie.Need-enum-known-acquiring-3
 enum-known-acquiring-3 c = search needs
 
--- src/resumes.rt:48:1
 returns : tie.Need-returns
 returns c = simp (c .before .acquiring .given .1)
 
--- src/resumes.rt:48:1
 returns-2 : tie.Need-returns-2
 returns-2 c = simp (c .before .acquiring2 .given .1)
 
--- src/resumes.rt:48:1
 returns-3 : tie.Need-returns-3
 returns-3 c = simp (c .before .acquiring3 .given .1)
 

@@ -1,22 +1,16 @@
 use borrow.Author.Needs.{needs}
 use Rattle.robust_calls.proofs.resumes.borrowed_next.Statement.{statement}
 use Rattle.robust_calls.proofs.resumes.borrowed_next.Tie as tie
-use Rattle.robust_calls.proofs.resumes.borrowed_next.Reads as reads
-use Rattle.robust_calls.proofs.resumes.borrowed_next.Lts as lts
 
--- src/resumes.rt:72:24
 enum-known-counted : tie.Need-enum-known-counted
 enum-known-counted c = search needs
 
--- src/resumes.rt:73:27
 enum-known-counted-2 : tie.Need-enum-known-counted-2
 enum-known-counted-2 c = search needs
 
--- src/resumes.rt:68:1
 returns : tie.Need-returns
 returns c = simp (c .before .counted .given .1)
 
--- src/resumes.rt:68:1
 returns-2 : tie.Need-returns-2
 returns-2 c = simp (c .before .counted2 .given .1)
 

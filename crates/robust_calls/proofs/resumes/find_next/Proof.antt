@@ -1,22 +1,16 @@
 use borrow.Author.Needs.{needs}
 use Rattle.robust_calls.proofs.resumes.find_next.Statement.{statement}
 use Rattle.robust_calls.proofs.resumes.find_next.Tie as tie
-use Rattle.robust_calls.proofs.resumes.find_next.Reads as reads
-use Rattle.robust_calls.proofs.resumes.find_next.Lts as lts
 
--- src/resumes.rt:81:24
 enum-known-finding : tie.Need-enum-known-finding
 enum-known-finding c = search needs
 
--- src/resumes.rt:82:24
 enum-known-finding-2 : tie.Need-enum-known-finding-2
 enum-known-finding-2 c = search needs
 
--- src/resumes.rt:77:1
 returns : tie.Need-returns
 returns c = simp (c .before .finding .given .1)
 
--- src/resumes.rt:77:1
 returns-2 : tie.Need-returns-2
 returns-2 c = simp (c .before .finding2 .given .1)
 

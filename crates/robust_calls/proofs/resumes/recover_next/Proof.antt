@@ -1,22 +1,16 @@
 use borrow.Author.Needs.{needs}
 use Rattle.robust_calls.proofs.resumes.recover_next.Statement.{statement}
 use Rattle.robust_calls.proofs.resumes.recover_next.Tie as tie
-use Rattle.robust_calls.proofs.resumes.recover_next.Reads as reads
-use Rattle.robust_calls.proofs.resumes.recover_next.Lts as lts
 
--- src/resumes.rt:90:27
 enum-known-recovering : tie.Need-enum-known-recovering
 enum-known-recovering c = search needs
 
--- src/resumes.rt:91:31
 enum-known-recovering-2 : tie.Need-enum-known-recovering-2
 enum-known-recovering-2 c = search needs
 
--- src/resumes.rt:86:1
 returns : tie.Need-returns
 returns c = simp (c .before .recovering .given .1)
 
--- src/resumes.rt:86:1
 returns-2 : tie.Need-returns-2
 returns-2 c = simp (c .before .recovering2 .given .1)
 

@@ -1,30 +1,22 @@
 use borrow.Author.Needs.{needs}
 use Rattle.robust_calls.proofs.resumes.release_next.Statement.{statement}
 use Rattle.robust_calls.proofs.resumes.release_next.Tie as tie
-use Rattle.robust_calls.proofs.resumes.release_next.Reads as reads
-use Rattle.robust_calls.proofs.resumes.release_next.Lts as lts
 
--- src/resumes.rt:62:26
 enum-known-releasing : tie.Need-enum-known-releasing
 enum-known-releasing c = search needs
 
--- src/resumes.rt:63:29
 enum-known-releasing-2 : tie.Need-enum-known-releasing-2
 enum-known-releasing-2 c = search needs
 
--- src/resumes.rt:64:47
 enum-told : tie.Need-enum-told
 enum-told c = search needs
 
--- src/resumes.rt:58:1
 returns : tie.Need-returns
 returns c = simp (c .before .releasing .given .1)
 
--- src/resumes.rt:58:1
 returns-2 : tie.Need-returns-2
 returns-2 c = simp (c .before .releasing2 .given .1)
 
--- src/resumes.rt:58:1
 returns-3 : tie.Need-returns-3
 returns-3 c = simp (c .enum-told .given .1)
 

@@ -1,109 +1,73 @@
 use borrow.Author.Needs.{needs}
 use Rattle.robust_calls.proofs.resumes.resume.Statement.{statement}
 use Rattle.robust_calls.proofs.resumes.resume.Tie as tie
-use Rattle.robust_calls.proofs.resumes.resume.Reads as reads
-use Rattle.robust_calls.proofs.resumes.resume.Lts as lts
-use Rattle.robust_acquire.proofs.acquire_resume.Reads as acquire-resume-reads
-use Rattle.robust_calls.proofs.resumes.acquire_next.Reads as acquire-next-reads
-use Rattle.robust_calls.proofs.resumes.borrowed_next.Reads as borrowed-next-reads
-use Rattle.robust_calls.proofs.resumes.find_next.Reads as find-next-reads
-use Rattle.robust_calls.proofs.resumes.recover_next.Reads as recover-next-reads
-use Rattle.robust_calls.proofs.resumes.release_next.Reads as release-next-reads
-use Rattle.robust_find.proofs.find_resume.Reads as find-resume-reads
-use Rattle.robust_moves.proofs.count_resume.Reads as count-resume-reads
-use Rattle.robust_recover.proofs.recover_resume.Reads as recover-resume-reads
-use Rattle.robust_release.proofs.release_resume.Reads as release-resume-reads
-use Rattle.unique_index_set_enums.proofs.Generation.is_locked.Reads as is-locked-reads
 
--- src/resumes.rt:100:24
 enum-known-place : tie.Need-enum-known-place
 enum-known-place c = search needs
 
--- src/resumes.rt:100:49
 acquire-resume-requires : tie.Need-acquire-resume-requires
 acquire-resume-requires c κs = search needs
 
--- src/resumes.rt:100:36
 acquire-next-requires : tie.Need-acquire-next-requires
 acquire-next-requires c κs = search needs
 
--- src/resumes.rt:101:24
 enum-known-place-2 : tie.Need-enum-known-place-2
 enum-known-place-2 c = search needs
 
--- src/resumes.rt:101:49
 release-resume-requires : tie.Need-release-resume-requires
 release-resume-requires c κs = search needs
 
--- src/resumes.rt:101:36
 release-next-requires : tie.Need-release-next-requires
 release-next-requires c κs = search needs
 
--- src/resumes.rt:102:25
 enum-known-place-3 : tie.Need-enum-known-place-3
 enum-known-place-3 c = search needs
 
--- src/resumes.rt:102:49
 count-resume-requires : tie.Need-count-resume-requires
 count-resume-requires c κs = search needs
 
--- src/resumes.rt:102:35
 borrowed-next-requires : tie.Need-borrowed-next-requires
 borrowed-next-requires c κs = search needs
 
--- src/resumes.rt:104:17
 enum-told : tie.Need-enum-told
 enum-told c = search needs
 
--- src/resumes.rt:105:43
 is-locked-requires : tie.Need-is-locked-requires
 is-locked-requires c κs = search needs
 
--- src/resumes.rt:107:21
 enum-known-place-4 : tie.Need-enum-known-place-4
 enum-known-place-4 c = search needs
 
--- src/resumes.rt:107:40
 find-resume-requires : tie.Need-find-resume-requires
 find-resume-requires c κs = search needs
 
--- src/resumes.rt:107:30
 find-next-requires : tie.Need-find-next-requires
 find-next-requires c κs = search needs
 
--- src/resumes.rt:108:24
 enum-known-place-5 : tie.Need-enum-known-place-5
 enum-known-place-5 c = search needs
 
--- src/resumes.rt:108:49
 recover-resume-requires : tie.Need-recover-resume-requires
 recover-resume-requires c κs = search needs
 
--- src/resumes.rt:108:36
 recover-next-requires : tie.Need-recover-next-requires
 recover-next-requires c κs = search needs
 
--- src/resumes.rt:96:1
 returns : tie.Need-returns
 returns c = simp (c .acquire-next .ensures, c .before .acquire-resume .ensures, c .before .before .before .place .given .1)
 
--- src/resumes.rt:96:1
 returns-2 : tie.Need-returns-2
 returns-2 c = simp (c .release-next .ensures, c .before .release-resume .ensures, c .before .before .before .place2 .given .1)
 
--- src/resumes.rt:96:1
 returns-3 : tie.Need-returns-3
 returns-3 c = simp (c .borrowed-next .ensures, c .before .count-resume .ensures, c .before .before .before .place3 .given .1)
 
--- src/resumes.rt:96:1
 returns-4 : tie.Need-returns-4
 returns-4 c = simp (c .is-locked .ensures, c .before .before .enum-told .given .1)
 
--- src/resumes.rt:96:1
 returns-5 : tie.Need-returns-5
 returns-5 c = simp (c .find-next .ensures, c .before .find-resume .ensures, c .before .before .before .place4 .given .1)
 
--- src/resumes.rt:96:1
 returns-6 : tie.Need-returns-6
 returns-6 c = simp (c .recover-next .ensures, c .before .recover-resume .ensures, c .before .before .before .place5 .given .1)
 

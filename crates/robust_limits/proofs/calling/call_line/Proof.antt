@@ -1,149 +1,103 @@
 use borrow.Author.Needs.{needs}
 use Rattle.robust_limits.proofs.calling.call_line.Statement.{statement}
 use Rattle.robust_limits.proofs.calling.call_line.Tie as tie
-use Rattle.robust_limits.proofs.calling.call_line.Reads as reads
-use Rattle.robust_limits.proofs.calling.call_line.Lts as lts
-use Rattle.robust_limits.proofs.calling.death_line.Reads as death-line-reads
-use Rattle.robust_limits.proofs.calling.drain_line.Reads as drain-line-reads
-use Rattle.robust_limits.proofs.calling.list_line.Reads as list-line-reads
-use Rattle.robust_limits.proofs.calling.request_of.Reads as request-of-reads
-use Rattle.robust_limits.proofs.calling.setup_on.Reads as setup-on-reads
-use Rattle.robust_limits.proofs.calling.start_on.Reads as start-on-reads
-use Rattle.robust_limits.proofs.calling.step_on.Reads as step-on-reads
-use Rattle.robust_limits.proofs.calling.stepped_line.Reads as stepped-line-reads
-use Rattle.robust_limits.proofs.worlds.byte.Reads as byte-reads
-use Rattle.robust_limits.proofs.worlds.copy_cells.Reads as copy-cells-reads
-use Rattle.robust_limits.proofs.worlds.narrow.Reads as narrow-reads
 
--- src/calling.rt:150:17
 array-read-first : tie.Need-array-read-first
 array-read-first c = search needs
 
--- src/calling.rt:151:5
 copy-cells-requires : tie.Need-copy-cells-requires
 copy-cells-requires c κs = search needs
 
--- src/calling.rt:153:39
 narrow-requires : tie.Need-narrow-requires
 narrow-requires c κs = search needs
 
--- src/calling.rt:153:13
 setup-on-requires : tie.Need-setup-on-requires
 setup-on-requires c κs = search needs
 
--- src/calling.rt:154:9
 stepped-line-requires : tie.Need-stepped-line-requires
 stepped-line-requires c κs = search needs
 
--- src/calling.rt:154:9
 same-length : tie.Need-same-length
 same-length c = search needs
 
--- src/calling.rt:154:9
 same-length-2 : tie.Need-same-length-2
 same-length-2 c = c .before .before .before .before .before .before .before .before .before .before .before .before .copy-cells .kept .1 .0
 
--- src/calling.rt:154:9
 returns : tie.Need-returns
 returns c = search needs
 
--- src/calling.rt:157:39
 request-of-requires : tie.Need-request-of-requires
 request-of-requires c κs = search needs
 
--- src/calling.rt:157:13
 start-on-requires : tie.Need-start-on-requires
 start-on-requires c κs = search needs
 
--- src/calling.rt:158:9
 stepped-line-requires-2 : tie.Need-stepped-line-requires-2
 stepped-line-requires-2 c κs = search needs
 
--- src/calling.rt:158:9
 same-length-3 : tie.Need-same-length-3
 same-length-3 c = search needs
 
--- src/calling.rt:158:9
 same-length-4 : tie.Need-same-length-4
 same-length-4 c = c .before .before .before .before .before .before .before .before .before .before .before .before .before .before .copy-cells .kept .1 .0
 
--- src/calling.rt:158:9
 returns-2 : tie.Need-returns-2
 returns-2 c = search needs
 
--- src/calling.rt:161:13
 step-on-requires : tie.Need-step-on-requires
 step-on-requires c κs = search needs
 
--- src/calling.rt:162:9
 stepped-line-requires-3 : tie.Need-stepped-line-requires-3
 stepped-line-requires-3 c κs = search needs
 
--- src/calling.rt:162:9
 same-length-5 : tie.Need-same-length-5
 same-length-5 c = search needs
 
--- src/calling.rt:162:9
 same-length-6 : tie.Need-same-length-6
 same-length-6 c = c .before .before .before .before .before .before .before .before .before .before .before .before .before .before .before .copy-cells .kept .1 .0
 
--- src/calling.rt:162:9
 returns-3 : tie.Need-returns-3
 returns-3 c = search needs
 
--- src/calling.rt:165:34
 narrow-requires-2 : tie.Need-narrow-requires-2
 narrow-requires-2 c κs = search needs
 
--- src/calling.rt:165:9
 drain-line-requires : tie.Need-drain-line-requires
 drain-line-requires c κs = search needs
 
--- src/calling.rt:165:9
 same-length-7 : tie.Need-same-length-7
 same-length-7 c = search needs
 
--- src/calling.rt:165:9
 same-length-8 : tie.Need-same-length-8
 same-length-8 c = c .before .before .before .before .before .before .before .before .before .before .before .before .before .before .before .before .copy-cells .kept .1 .0
 
--- src/calling.rt:165:9
 returns-4 : tie.Need-returns-4
 returns-4 c = search needs
 
--- src/calling.rt:168:9
 death-line-requires : tie.Need-death-line-requires
 death-line-requires c κs = search needs
 
--- src/calling.rt:168:9
 same-length-9 : tie.Need-same-length-9
 same-length-9 c = search needs
 
--- src/calling.rt:168:9
 same-length-10 : tie.Need-same-length-10
 same-length-10 c = search needs
 
--- src/calling.rt:168:9
 returns-5 : tie.Need-returns-5
 returns-5 c = search needs
 
--- src/calling.rt:170:22
 byte-requires : tie.Need-byte-requires
 byte-requires c κs = search needs
 
--- src/calling.rt:170:5
 list-line-requires : tie.Need-list-line-requires
 list-line-requires c κs = search needs
 
--- src/calling.rt:148:1
 same-length-11 : tie.Need-same-length-11
 same-length-11 c = search needs
 
--- src/calling.rt:148:1
 same-length-12 : tie.Need-same-length-12
 same-length-12 c = c .before .before .before .before .before .before .before .before .before .before .before .before .before .before .copy-cells .kept .1 .0
 
--- src/calling.rt:148:1
 returns-6 : tie.Need-returns-6
 returns-6 c = search needs
 

@@ -2,11 +2,6 @@ use borrow.Author.Needs.{needs}
 use Prim.Native.Nat.{_-_}
 use Rattle.robust_limits.proofs.telling.tell_record.Statement.{statement}
 use Rattle.robust_limits.proofs.telling.tell_record.Tie as tie
-use Rattle.robust_limits.proofs.telling.tell_record.Reads as reads
-use Rattle.robust_limits.proofs.telling.tell_record.Lts as lts
-use Rattle.call_lines.proofs.record_numbers.Reads as record-numbers-reads
-use Rattle.robust_limits.proofs.telling.decimal.Reads as decimal-reads
-use Rattle.robust_limits.proofs.telling.text.Reads as text-reads
 
 abbrev Inv-loop : tie.InvT-loop
 Inv-loop numbers i₀ t7 t8 t9 i = Unit {0}
@@ -20,103 +15,78 @@ Inv-loop2 numbers i k₀ t9 k = Unit {0}
 abbrev μ-loop2 : tie.MeasureT-loop2
 μ-loop2 numbers i k₀ t9 k = 23 - k
 
--- src/telling.rt:67:19
 record-numbers-requires : tie.Need-record-numbers-requires Inv-loop μ-loop Inv-loop2 μ-loop2
 record-numbers-requires c κs = search needs
 
--- src/telling.rt:68:8
 array-read-if1 : tie.Need-array-read-if1 Inv-loop μ-loop Inv-loop2 μ-loop2
 array-read-if1 c = search needs
 
--- src/telling.rt:69:14
 slice-aggregate-text : tie.Need-slice-aggregate-text Inv-loop μ-loop Inv-loop2 μ-loop2
 slice-aggregate-text c = search needs
 
--- src/telling.rt:69:9
 text-requires : tie.Need-text-requires Inv-loop μ-loop Inv-loop2 μ-loop2
 text-requires c κs = search needs
 
--- src/telling.rt:71:14
 slice-aggregate-text-2 : tie.Need-slice-aggregate-text-2 Inv-loop μ-loop Inv-loop2 μ-loop2
 slice-aggregate-text-2 c = search needs
 
--- src/telling.rt:71:9
 text-requires-2 : tie.Need-text-requires-2 Inv-loop μ-loop Inv-loop2 μ-loop2
 text-requires-2 c κs = search needs
 
--- src/telling.rt:74:5
 loop-holds : tie.Need-loop-holds Inv-loop μ-loop Inv-loop2 μ-loop2
 loop-holds c = search needs
 
--- src/telling.rt:75:17
 slice-aggregate-decimal : tie.Need-slice-aggregate-decimal Inv-loop μ-loop Inv-loop2 μ-loop2
 slice-aggregate-decimal c = search needs
 
--- src/telling.rt:75:23
 mul-decimal : tie.Need-mul-decimal Inv-loop μ-loop Inv-loop2 μ-loop2
 mul-decimal c = search needs
 
--- src/telling.rt:75:23
 array-read-decimal : tie.Need-array-read-decimal Inv-loop μ-loop Inv-loop2 μ-loop2
 array-read-decimal c = search needs
 
--- src/telling.rt:75:9
 decimal-requires : tie.Need-decimal-requires Inv-loop μ-loop Inv-loop2 μ-loop2
 decimal-requires c κs = search needs
 
--- src/telling.rt:76:9
 add-i : tie.Need-add-i Inv-loop μ-loop Inv-loop2 μ-loop2
 add-i c = search needs
 
--- src/telling.rt:74:5
 loop-less : tie.Need-loop-less Inv-loop μ-loop Inv-loop2 μ-loop2
 loop-less c = search needs
 
--- src/telling.rt:74:5
 loop-again : tie.Need-loop-again Inv-loop μ-loop Inv-loop2 μ-loop2
 loop-again c = search needs
 
--- src/telling.rt:78:10
 slice-aggregate-text-3 : tie.Need-slice-aggregate-text-3 Inv-loop μ-loop Inv-loop2 μ-loop2
 slice-aggregate-text-3 c = search needs
 
--- src/telling.rt:78:5
 text-requires-3 : tie.Need-text-requires-3 Inv-loop μ-loop Inv-loop2 μ-loop2
 text-requires-3 c κs = search needs
 
--- src/telling.rt:80:5
 loop2-holds : tie.Need-loop2-holds Inv-loop μ-loop Inv-loop2 μ-loop2
 loop2-holds c = search needs
 
--- src/telling.rt:81:17
 slice-aggregate-decimal-2 : tie.Need-slice-aggregate-decimal-2 Inv-loop μ-loop Inv-loop2 μ-loop2
 slice-aggregate-decimal-2 c = search needs
 
--- src/telling.rt:81:23
 mul-decimal-2 : tie.Need-mul-decimal-2 Inv-loop μ-loop Inv-loop2 μ-loop2
 mul-decimal-2 c = search needs
 
--- src/telling.rt:81:23
 array-read-decimal-2 : tie.Need-array-read-decimal-2 Inv-loop μ-loop Inv-loop2 μ-loop2
 array-read-decimal-2 c = search needs
 
--- src/telling.rt:81:9
 decimal-requires-2 : tie.Need-decimal-requires-2 Inv-loop μ-loop Inv-loop2 μ-loop2
 decimal-requires-2 c κs = search needs
 
--- src/telling.rt:82:9
 add-k : tie.Need-add-k Inv-loop μ-loop Inv-loop2 μ-loop2
 add-k c = search needs
 
--- src/telling.rt:80:5
 loop2-less : tie.Need-loop2-less Inv-loop μ-loop Inv-loop2 μ-loop2
 loop2-less c = search needs
 
--- src/telling.rt:80:5
 loop2-again : tie.Need-loop2-again Inv-loop μ-loop Inv-loop2 μ-loop2
 loop2-again c = search needs
 
--- src/telling.rt:66:1
 returns : tie.Need-returns Inv-loop μ-loop Inv-loop2 μ-loop2
 returns c = search needs
 

@@ -1,11 +1,9 @@
 use borrow.Author.Needs.{needs}
 use Prim.Native.Nat.{_-_}
-use lib.ListN.{length, length-set}
-use mathlib.Core.Path.{_≡_, refl}
+use lib.ListN.{length}
+use mathlib.Core.Path.{_≡_}
 use Rattle.robust_limits.proofs.worlds.copy_cells.Statement.{statement}
 use Rattle.robust_limits.proofs.worlds.copy_cells.Tie as tie
-use Rattle.robust_limits.proofs.worlds.copy_cells.Reads as reads
-use Rattle.robust_limits.proofs.worlds.copy_cells.Lts as lts
 
 abbrev Inv-loop : tie.InvT-loop
 Inv-loop cells before₀ i₀ before i = length before ≡ length before₀
@@ -13,51 +11,39 @@ Inv-loop cells before₀ i₀ before i = length before ≡ length before₀
 abbrev μ-loop : tie.MeasureT-loop
 μ-loop cells before₀ i₀ before i = length cells - i
 
--- src/worlds.rt:56:5
 loop-holds : tie.Need-loop-holds Inv-loop μ-loop
 loop-holds c = search needs
 
--- src/worlds.rt:57:21
 mul-before : tie.Need-mul-before Inv-loop μ-loop
 mul-before c = search needs
 
--- src/worlds.rt:57:21
 shared-slice-read-before : tie.Need-shared-slice-read-before Inv-loop μ-loop
 shared-slice-read-before c = search needs
 
--- src/worlds.rt:57:9
 mul-before-2 : tie.Need-mul-before-2 Inv-loop μ-loop
 mul-before-2 c = search needs
 
--- src/worlds.rt:57:9
 slice-write-before : tie.Need-slice-write-before Inv-loop μ-loop
 slice-write-before c = search needs
 
--- src/worlds.rt:58:9
 add-i : tie.Need-add-i Inv-loop μ-loop
 add-i c = search needs
 
--- src/worlds.rt:56:5
 loop-less : tie.Need-loop-less Inv-loop μ-loop
 loop-less c = search needs
 
--- src/worlds.rt:56:5
 loop-again : tie.Need-loop-again Inv-loop μ-loop
 loop-again c = search needs
 
--- src/worlds.rt:54:1
 same-length : tie.Need-same-length Inv-loop μ-loop
 same-length c = search needs
 
--- src/worlds.rt:54:1
 returns : tie.Need-returns Inv-loop μ-loop
 returns c = search needs
 
--- src/worlds.rt:54:1
 same-length-2 : tie.Need-same-length-2 Inv-loop μ-loop
 same-length-2 c = search needs
 
--- src/worlds.rt:54:1
 returns-2 : tie.Need-returns-2 Inv-loop μ-loop
 returns-2 c = search needs
 

@@ -1,112 +1,81 @@
-use borrow.Author.Tests.{ltb-true}
+use borrow.Author.Tests.{ltb-true, ne-eqb, eq-eqb}
 use mathlib.Core.Path.{refl}
-use borrow.Author.Tests.{ne-eqb}
-use borrow.Author.Tests.{eq-eqb}
 use borrow.Author.Needs.{needs}
 use Rattle.robust_unique_index_set.proofs.accesses.perform.Statement.{statement}
 use Rattle.robust_unique_index_set.proofs.accesses.perform.Tie as tie
-use Rattle.robust_unique_index_set.proofs.accesses.perform.Reads as reads
-use Rattle.robust_unique_index_set.proofs.accesses.perform.Lts as lts
-use Rattle.robust_unique_index_set.proofs.accesses.saw_generation.Reads as saw-generation-reads
-use Rattle.robust_unique_index_set.proofs.accesses.saw_owner.Reads as saw-owner-reads
 
--- src/accesses.rt:45:18
 enum-told : tie.Need-enum-told
 enum-told c = search needs
 
--- src/accesses.rt:45:18
 saw-generation-requires : tie.Need-saw-generation-requires
 saw-generation-requires c κs = search needs
 
--- src/accesses.rt:47:26
 enum-known-access : tie.Need-enum-known-access
 enum-known-access c = search needs
 
--- src/accesses.rt:51:26
 saw-generation-requires-2 : tie.Need-saw-generation-requires-2
 saw-generation-requires-2 c κs = search needs
 
--- src/accesses.rt:49:17
 returns : tie.Need-returns
 returns c = simp (c .saw-generation2 .ensures, eq-eqb _ _ (c .before .if1 .taken), c .before .before .before .before .before .access .given .1) (refl, refl, refl)
 
--- src/accesses.rt:56:22
 saw-generation-requires-3 : tie.Need-saw-generation-requires-3
 saw-generation-requires-3 c κs = search needs
 
--- src/accesses.rt:59:22
 enum-known-access-2 : tie.Need-enum-known-access-2
 enum-known-access-2 c = search needs
 
--- src/accesses.rt:60:22
 cast-at : tie.Need-cast-at
 cast-at c = search needs
 
--- src/accesses.rt:63:38
 mul-saw-owner : tie.Need-mul-saw-owner
 mul-saw-owner c = search needs
 
--- src/accesses.rt:63:38
 slice-read-saw-owner : tie.Need-slice-read-saw-owner
 slice-read-saw-owner c = ltb-true _ _ (rw (c .before .before .before .access2 .given .1) at (c .before .before .before .before .before .before .pre))
 
--- src/accesses.rt:63:22
 saw-owner-requires : tie.Need-saw-owner-requires
 saw-owner-requires c κs = search needs
 
--- src/accesses.rt:66:30
 enum-known-access-3 : tie.Need-enum-known-access-3
 enum-known-access-3 c = search needs
 
--- src/accesses.rt:67:22
 cast-at-2 : tie.Need-cast-at-2
 cast-at-2 c = search needs
 
--- src/accesses.rt:68:25
 mul-found : tie.Need-mul-found
 mul-found c = search needs
 
--- src/accesses.rt:68:25
 slice-read-found : tie.Need-slice-read-found
 slice-read-found c = ltb-true _ _ (rw (c .before .before .before .access3 .given .1) at (c .before .before .before .before .before .before .pre))
 
--- src/accesses.rt:70:17
 mul-cells : tie.Need-mul-cells
 mul-cells c = search needs
 
--- src/accesses.rt:70:17
 slice-write-cells : tie.Need-slice-write-cells
 slice-write-cells c = ltb-true _ _ (rw (c .before .before .before .before .before .access3 .given .1) at (c .before .before .before .before .before .before .before .before .pre))
 
--- src/accesses.rt:73:26
 saw-owner-requires-2 : tie.Need-saw-owner-requires-2
 saw-owner-requires-2 c κs = search needs
 
--- src/accesses.rt:71:17
 same-length : tie.Need-same-length
 same-length c = search needs
 
--- src/accesses.rt:71:17
 returns-2 : tie.Need-returns-2
 returns-2 c = simp (c .saw-owner2 .ensures, eq-eqb _ _ (c .before .if2 .taken), c .before .before .before .before .before .before .access3 .given .1) (refl, refl, refl)
 
--- src/accesses.rt:78:22
 saw-owner-requires-3 : tie.Need-saw-owner-requires-3
 saw-owner-requires-3 c κs = search needs
 
--- src/accesses.rt:38:1
 returns-3 : tie.Need-returns-3
 returns-3 c = simp (c .saw-generation .ensures, c .before .enum-told .given .1) (refl, refl, refl)
 
--- src/accesses.rt:38:1
 returns-4 : tie.Need-returns-4
 returns-4 c = simp (c .saw-generation3 .ensures, ne-eqb _ _ (c .before .if1 .left), c .before .before .before .before .before .access .given .1) (refl, refl, refl)
 
--- src/accesses.rt:38:1
 returns-5 : tie.Need-returns-5
 returns-5 c = simp (c .saw-owner .ensures, c .before .before .before .before .access2 .given .1) (refl, refl, refl)
 
--- src/accesses.rt:38:1
 returns-6 : tie.Need-returns-6
 returns-6 c = simp (c .saw-owner3 .ensures, ne-eqb _ _ (c .before .if2 .left), c .before .before .before .before .before .before .access3 .given .1) (refl, refl, refl)
 

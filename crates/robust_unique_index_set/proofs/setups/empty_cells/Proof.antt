@@ -1,7 +1,6 @@
 use Rattle.unique_index_set_enums.specs.declared.OwnerId.{OwnerId}
-use lib.ListN.{set}
+use lib.ListN.{set, length, length-set}
 use borrow.Author.Needs.{needs}
-use lib.ListN.{length, length-set}
 use native.Mathlib.Omega.{arith}
 use mathlib.Core.Path.{_≡_, refl, ap, _∙_}
 use Prim.Native.Nat.{_-_, _≤_}

@@ -1,19 +1,12 @@
-use borrow.Author.Tests.{le-ltb}
-use borrow.Author.Tests.{le-leb}
-use borrow.Author.Tests.{lt-leb}
-use borrow.Author.Tests.{lt-ltb}
+use borrow.Author.Tests.{le-ltb, lt-ltb}
 use Rattle.robust_unique_index_set.specs.Setups.{tooLarge}
 use Rattle.robust_unique_index_set.proofs.setups.is_too_large.Statement.{statement}
 use Rattle.robust_unique_index_set.proofs.setups.is_too_large.Tie as tie
-use Rattle.robust_unique_index_set.proofs.setups.is_too_large.Reads as reads
-use Rattle.robust_unique_index_set.proofs.setups.is_too_large.Lts as lts
 
--- src/setups.rt:41:9
 returns : tie.Need-returns
 unfolding tooLarge
 returns c = simp (lt-ltb _ _ (c .if1 .taken))
 
--- src/setups.rt:37:1
 returns-2 : tie.Need-returns-2
 unfolding tooLarge
 returns-2 c = simp (le-ltb _ _ (c .if1 .left))

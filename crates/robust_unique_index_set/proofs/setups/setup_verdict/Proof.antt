@@ -2,20 +2,13 @@ use Rattle.robust_unique_index_set.specs.Setups.{setupVerdict}
 use borrow.Author.Needs.{needs}
 use Rattle.robust_unique_index_set.proofs.setups.setup_verdict.Statement.{statement}
 use Rattle.robust_unique_index_set.proofs.setups.setup_verdict.Tie as tie
-use Rattle.robust_unique_index_set.proofs.setups.setup_verdict.Reads as reads
-use Rattle.robust_unique_index_set.proofs.setups.setup_verdict.Lts as lts
-use Rattle.calls.proofs.Tests.verdict.Reads as verdict-reads
-use Rattle.robust_unique_index_set.proofs.setups.is_too_large.Reads as is-too-large-reads
 
--- src/setups.rt:51:31
 is-too-large-requires : tie.Need-is-too-large-requires
 is-too-large-requires c κs = search needs
 
--- src/setups.rt:50:5
 verdict-requires : tie.Need-verdict-requires
 verdict-requires c κs = search needs
 
--- src/setups.rt:47:1
 returns : tie.Need-returns
 unfolding setupVerdict
 returns c = simp (c .verdict .ensures, c .before .is-too-large .ensures)

@@ -1,68 +1,48 @@
 use Rattle.robust_unique_index_set.proofs.Accepted.{step-may}
 use mathlib.Core.Path.{sym, _∙_}
-use mathlib.Core.Path.{refl}
 use Rattle.robust_unique_index_set.specs.Steps.{stepOf}
 use borrow.Author.Needs.{needs}
 use Rattle.robust_unique_index_set.proofs.steps.step.Statement.{statement}
 use Rattle.robust_unique_index_set.proofs.steps.step.Tie as tie
-use Rattle.robust_unique_index_set.proofs.steps.step.Reads as reads
-use Rattle.robust_unique_index_set.proofs.steps.step.Lts as lts
-use Rattle.robust_places.proofs.open.Reads as open-reads
-use Rattle.robust_unique_index_set.proofs.steps.advance.Reads as advance-reads
-use Rattle.robust_unique_index_set.proofs.steps.turn_verdict.Reads as turn-verdict-reads
-use Rattle.robust_unique_index_set.proofs.steps.turned_away.Reads as turned-away-reads
 
--- src/steps.rt:155:9
 open-requires : tie.Need-open-requires
 open-requires c κs = search needs
 
--- src/steps.rt:156:9
 turn-verdict-requires : tie.Need-turn-verdict-requires
 turn-verdict-requires c κs = search needs
 
--- src/steps.rt:158:26
 enum-known-verdict : tie.Need-enum-known-verdict
 enum-known-verdict c = search needs
 
--- src/steps.rt:158:34
 turned-away-requires : tie.Need-turned-away-requires
 turned-away-requires c κs = search needs
 
--- src/steps.rt:159:30
 enum-told : tie.Need-enum-told
 enum-told c = search needs
 
--- src/steps.rt:160:24
 enum-known-opened : tie.Need-enum-known-opened
 enum-known-opened c = search needs
 
--- src/steps.rt:160:34
 advance-requires : tie.Need-advance-requires
 advance-requires c κs = let v = c .before .before .before .before .before .before in let s = c .before .before .before .before .before .before .before .before .before .before .before in step-may _ _ _ _ (s .args .thread) (s .args .thread .call) (s .args .thread .list) (sym (v .turn-verdict .ensures) ∙ c .before .before .before .before .enum-told .given .1) (v .before .«open» .ensures) (c .before .before .opened .given .1)
 
--- src/steps.rt:161:57
 enum-told-2 : tie.Need-enum-told-2
 enum-told-2 c = search needs
 
--- src/steps.rt:161:32
 turned-away-requires-2 : tie.Need-turned-away-requires-2
 turned-away-requires-2 c κs = search needs
 
--- src/steps.rt:143:1
 returns : tie.Need-returns
 unfolding stepOf
 returns c = simp (c .turned-away .ensures, ← c .before .before .before .before .turn-verdict .ensures, ← c .before .before .before .before .before .«open» .ensures, c .before .before .verdict .given .1)
 
--- src/steps.rt:143:1
 same-length : tie.Need-same-length
 same-length c = search needs
 
--- src/steps.rt:143:1
 returns-2 : tie.Need-returns-2
 unfolding stepOf
 returns-2 c = simp (c .before .before .advance .ensures, ← c .before .before .before .before .before .before .before .before .before .before .«open» .ensures, ← c .before .before .before .before .before .before .before .before .before .turn-verdict .ensures) (simp (c .before .before .before .before .before .before .before .enum-told .given .1, c .before .before .before .before .before .opened .given .1))
 
--- src/steps.rt:143:1
 returns-3 : tie.Need-returns-3
 unfolding stepOf
 returns-3 c = simp (c .turned-away2 .ensures, ← c .before .before .before .before .before .before .«open» .ensures, ← c .before .before .before .before .before .turn-verdict .ensures) (simp (c .before .before .before .enum-told .given .1, c .before .enum-told2 .given .1))

@@ -1,122 +1,85 @@
 use borrow.Author.Needs.{needs}
 use Rattle.turns.proofs.plain.plain_turn.Statement.{statement}
 use Rattle.turns.proofs.plain.plain_turn.Tie as tie
-use Rattle.turns.proofs.plain.plain_turn.Reads as reads
-use Rattle.turns.proofs.plain.plain_turn.Lts as lts
-use Rattle.thread_records.proofs.death.Reads as death-reads
-use Rattle.thread_records.proofs.list.Reads as list-reads
-use Rattle.turns.proofs.plain.plain_after.Reads as plain-after-reads
-use Rattle.turns.proofs.plain.plain_beside.Reads as plain-beside-reads
-use Rattle.turns.proofs.steps_in.Reads as steps-in-reads
-use Rattle.unique_index_set.proofs.drain.Reads as drain-reads
-use Rattle.unique_index_set.proofs.start.Reads as start-reads
-use Rattle.unique_index_set.proofs.step.Reads as step-reads
 
--- src/plain.rt:78:26
 enum-known-operation : tie.Need-enum-known-operation
 enum-known-operation c = search needs
 
--- src/plain.rt:79:17
 start-requires : tie.Need-start-requires
 start-requires c κs = search needs
 
--- src/plain.rt:80:13
 plain-after-requires : tie.Need-plain-after-requires
 plain-after-requires c κs = search needs
 
--- src/plain.rt:83:59
 enum-told : tie.Need-enum-told
 enum-told c = search needs
 
--- src/plain.rt:83:17
 step-requires : tie.Need-step-requires
 step-requires c κs = search needs
 
--- src/plain.rt:85:34
 steps-in-requires : tie.Need-steps-in-requires
 steps-in-requires c κs = search needs
 
--- src/plain.rt:85:13
 plain-after-requires-2 : tie.Need-plain-after-requires-2
 plain-after-requires-2 c κs = search needs
 
--- src/plain.rt:87:51
 enum-told-2 : tie.Need-enum-told-2
 enum-told-2 c = search needs
 
--- src/plain.rt:87:46
 list-requires : tie.Need-list-requires
 list-requires c κs = search needs
 
--- src/plain.rt:87:28
 plain-beside-requires : tie.Need-plain-beside-requires
 plain-beside-requires c κs = search needs
 
--- src/plain.rt:88:47
 enum-told-3 : tie.Need-enum-told-3
 enum-told-3 c = search needs
 
--- src/plain.rt:88:47
 death-requires : tie.Need-death-requires
 death-requires c κs = search needs
 
--- src/plain.rt:88:29
 plain-beside-requires-2 : tie.Need-plain-beside-requires-2
 plain-beside-requires-2 c κs = search needs
 
--- src/plain.rt:89:26
 enum-known-operation-2 : tie.Need-enum-known-operation-2
 enum-known-operation-2 c = search needs
 
--- src/plain.rt:90:17
 drain-requires : tie.Need-drain-requires
 drain-requires c κs = search needs
 
--- src/plain.rt:92:13
 plain-after-requires-3 : tie.Need-plain-after-requires-3
 plain-after-requires-3 c κs = search needs
 
--- src/plain.rt:65:1
 same-length : tie.Need-same-length
 same-length c = search needs
 
--- src/plain.rt:65:1
 same-length-2 : tie.Need-same-length-2
 same-length-2 c = search needs
 
--- src/plain.rt:65:1
 returns : tie.Need-returns
 returns c = simp (c .plain-after .ensures, c .before .before .before .before .before .start .ensures, c .before .before .before .before .before .before .before .before .before .operation .given .1)
 
--- src/plain.rt:65:1
 same-length-3 : tie.Need-same-length-3
 same-length-3 c = search needs
 
--- src/plain.rt:65:1
 same-length-4 : tie.Need-same-length-4
 same-length-4 c = search needs
 
--- src/plain.rt:65:1
 returns-2 : tie.Need-returns-2
 returns-2 c = simp (c .plain-after2 .ensures, c .before .steps-in .ensures, ← c .before .before .before .before .before .before .before .step .ensures, c .before .before .before .before .before .before .before .before .before .before .enum-told .given .1)
 
--- src/plain.rt:65:1
 returns-3 : tie.Need-returns-3
 returns-3 c = simp (c .plain-beside .ensures, c .before .list .ensures, c .before .before .enum-told2 .given .1)
 
--- src/plain.rt:65:1
 returns-4 : tie.Need-returns-4
 returns-4 c = simp (c .plain-beside2 .ensures, c .before .death .ensures, c .before .before .enum-told3 .given .1)
 
--- src/plain.rt:65:1
 same-length-5 : tie.Need-same-length-5
 same-length-5 c = search needs
 
--- src/plain.rt:65:1
 same-length-6 : tie.Need-same-length-6
 same-length-6 c = search needs
 
--- src/plain.rt:65:1
 returns-5 : tie.Need-returns-5
 returns-5 c = simp (c .plain-after3 .ensures, c .before .before .before .before .before .before .drain .ensures, c .before .before .before .before .before .before .before .before .before .before .operation2 .given .1)
 
