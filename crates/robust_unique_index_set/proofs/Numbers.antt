@@ -20,6 +20,7 @@ use Rattle.calls.specs.Order.{testsAtSetup, testsAtTurn}
 use Rattle.thread_records.specs.declared.OwnerList.{OwnerList}
 use Rattle.thread_records.specs.declared.Record.{Record}
 use Rattle.thread_records.specs.Records.{notCalling}
+use Rattle.thread_records.proofs.Leaves.{same-answer}
 use Rattle.thread_records.proofs.Drains.{drain-among}
 use Rattle.thread_records.proofs.Numbers.{among, RefusedAmong, FailedAmong, unchanged-among, taken-among, judged-among, setupNumbers, setup-failed, stepNumbers, step-failed, drainNumbers, drain-failed}
 use Rattle.robust_moves.specs.declared.Saw.{Saw}
@@ -161,9 +162,6 @@ next-among capacity (Borrowed p) list saw = borrowed-among (countResumed capacit
 next-among capacity LockedLook list saw = refl
 next-among capacity (Find p) list saw = find-among (findResumed capacity p saw)
 next-among capacity (Recover p) list saw = recover-among (recoverResumed capacity p list saw)
-
-same-answer : (a b : Answer) → progress.Answered a ≡ progress.Answered b → a ≡ b
-same-answer a b e = cc
 
 answered-among : (c : Call) (n : Next) (a : Answer) → NextAmong c n → progressAfter n ≡ progress.Answered a → among (answerNumber a) (answerNumbers c) ≡ true
 answered-among c (Going q) a e p = cc

@@ -16,7 +16,7 @@ pub record Leaves {S : Type 0} (Opens : S → Record → Type 0) (after : Answer
   pub opens : e .report .progress ≡ Accepted → Opens (e .shared) (e .thread)
   pub idle : (a : Answer) → e .report .progress ≡ Answered a → e .thread ≡ idleRecord (after a (t .list))
 
-same-answer : (a b : Answer) → Answered a ≡ Answered b → a ≡ b
+pub same-answer : (a b : Answer) → Answered a ≡ Answered b → a ≡ b
 same-answer a b e = cc
 
 module _ {S : Type 0} (Opens : S → Record → Type 0) (after : Answer → OwnerList → OwnerList) (t : Record) where

@@ -23,6 +23,7 @@ use Rattle.calls.specs.Order.{testsAtSetup, testsAtTurn}
 use Rattle.thread_records.specs.declared.Record.{Record}
 use Rattle.thread_records.proofs.Numbers.{among, RefusedAmong, FailedAmong, unchanged-among, taken-among, judged-among, setupNumbers, setup-failed, stepNumbers, step-failed}
 use Rattle.thread_records.specs.Records.{notCalling}
+use Rattle.thread_records.proofs.Leaves.{same-answer}
 use Rattle.thread_records.proofs.Drains.{drain-among}
 use Rattle.head_details.specs.Word.{headOf, borrowedOf}
 use Rattle.plain_places.specs.declared.Place.{Place}
@@ -148,9 +149,6 @@ next-among capacity (ReleaseWrite i m seen) saw = refl
 next-among capacity (ReleaseExchange i m seen) saw = choose (NextAmong call.Release) (saw .won) _ _ (λ _. refl) (λ _. release-among i m (saw .word))
 next-among capacity BorrowedLook saw = refl
 next-among capacity LockedLook saw = refl
-
-same-answer : (a b : Answer) → progress.Answered a ≡ progress.Answered b → a ≡ b
-same-answer a b e = cc
 
 answered-among : (c : Call) (n : Next) (a : Answer) → NextAmong c n → reportAfter n .progress ≡ progress.Answered a → among (answerNumber a) (answerNumbers c) ≡ true
 answered-among c (Going q) a e p = cc
