@@ -1,0 +1,4 @@
+pub mod Works
+pub mod Plain
+pub mod Robust
+pub mod Docks
