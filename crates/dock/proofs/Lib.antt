@@ -1,3 +1,6 @@
 pub mod Slices
+pub mod Shown
+pub mod Cited
 pub mod Size
 pub mod Filled
+pub mod Works
