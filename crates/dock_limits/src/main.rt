@@ -1,0 +1,3 @@
+mod lending;
+
+fn main() {}
