@@ -3,4 +3,5 @@ pub mod Shown
 pub mod Cited
 pub mod Size
 pub mod Filled
+pub mod Callees
 pub mod Works
