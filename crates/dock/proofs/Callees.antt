@@ -91,10 +91,10 @@ module _ {M : Type 1} (𝓤 : URA M) (H : Heap 𝓤) (A : Atoms 𝓤) (W : Given
 
     hears-place : (v : Val) → ent 𝓤 (Place 𝓤 H A mem run .post to-place v) (mean 𝓤 H A (PlacePost v))
     hears-place v =
-      qed W (raw (Place 𝓤 H A mem run .post to-place v) ∷ []) ∵ updating ! $
-      use1 W (later (some (λ (i : ℕ). (‵ ftrue ⊛ ‵ (usize .own i (v ∷ []))) ⊛ raw (ensured 𝓤 H A place-of.ended (place-of.clauses 𝓤 H A mem run) tt (task, tt) tt i)))) (id⊢ 𝓤 _) $ await ! tt $ pick ! (λ i.
-      split ! $ move ! (1 ∷ []) $ use1 W (raw (fact 𝓤 (i ≡ placeOf (task .work)))) (place-of-fact 𝓤 H A mem run task i) $ heard ! (i ≡ placeOf (task .work)) (λ e. split ! $ move ! (1 ∷ []) $
-      facts ! usize (Is usize) (shows-of 𝓤 H A usize) i (v ∷ []) (λ is. at-once ! $ by ! (guardI 𝓤 (Placed task v) (emp 𝓤) (ap only (is .0) ∙ ap (vint w64) e, subst (λ (j : ℕ). j < 2 ^ 64) e (is .1))))))
+        qed W (raw (Place 𝓤 H A mem run .post to-place v) ∷ []) ∵ updating ! $
+        use1 W (later (some (λ (i : ℕ). (‵ ftrue ⊛ ‵ (usize .own i (v ∷ []))) ⊛ raw (ensured 𝓤 H A place-of.ended (place-of.clauses 𝓤 H A mem run) tt (task, tt) tt i)))) (id⊢ 𝓤 _) $ await ! tt $ pick ! (λ i.
+        split ! $ move ! (1 ∷ []) $ use1 W (raw (fact 𝓤 (i ≡ placeOf (task .work)))) (place-of-fact 𝓤 H A mem run task i) $ heard ! (i ≡ placeOf (task .work)) (λ e. split ! $ move ! (1 ∷ []) $
+        facts ! usize (Is usize) (shows-of 𝓤 H A usize) i (v ∷ []) (λ is. at-once ! $ by ! (guardI 𝓤 (Placed task v) (emp 𝓤) (ap only (is .0) ∙ ap (vint w64) e, subst (λ (j : ℕ). j < 2 ^ 64) e (is .1))))))
 
     pub placed : Triple 𝓤 (C #place) (Place 𝓤 H A mem run) → ent 𝓤 (emp 𝓤) (C #place (mach-task ∷ []) (λ v. mean 𝓤 H A (PlacePost v)))
     placed known = made 𝓤 H (W .laws) C fm #place (Place 𝓤 H A mem run) known to-place (emp 𝓤) (λ v. mean 𝓤 H A (PlacePost v)) goes-place hears-place
@@ -121,15 +121,15 @@ module _ {M : Type 1} (𝓤 : URA M) (H : Heap 𝓤) (A : Atoms 𝓤) (W : Given
 
     goes-fetch : place < 2 ^ 64 → (α : ℕ) (δ : GName) → ent 𝓤 (⋆ 𝓤 H A (Show α δ)) (Fetch 𝓤 H A mem run .pre (to-fetch α δ))
     goes-fetch fits α δ =
-      qed W (Show α δ) ∵ nothing ! $ owned ! usize (Is usize) (uint-makes 𝓤 H A W w64) place _ (refl, fits) $ fjoin ! $ move ! (2 ∷ 0 ∷ []) $ fjoin ! $ nothing ! $ move ! (2 ∷ 0 ∷ []) $ join ! $ join ! $ frame ! $ done !
+        qed W (Show α δ) ∵ nothing ! $ owned ! usize (Is usize) (uint-makes 𝓤 H A W w64) place _ (refl, fits) $ fjoin ! $ move ! (2 ∷ 0 ∷ []) $ fjoin ! $ nothing ! $ move ! (2 ∷ 0 ∷ []) $ join ! $ join ! $ frame ! $ done !
 
     hears-fetch : (α : ℕ) (δ : GName) (v : Val) → ent 𝓤 (Fetch 𝓤 H A mem run .post (to-fetch α δ) v) (mean 𝓤 H A (FetchPost α v))
     hears-fetch α δ v =
-      qed W (raw (Fetch 𝓤 H A mem run .post (to-fetch α δ) v) ∷ []) ∵ updating ! $
-      use1 W (later (some (λ (t : Record). ((‵ (flft (α ∷ []) fullShare) ⊛ ‵ ftrue) ⊛ ‵ (T.the-row .own t (v ∷ []))) ⊛ raw (ensured 𝓤 H A fetch.ended (fetch.clauses 𝓤 H A mem run) (α ∷ [], tt) (shown δ, (place, tt)) tt t)))) (id⊢ 𝓤 _) $
-      await ! tt $ pick ! (λ t. split ! $ move ! (1 ∷ []) $ use1 W (raw (fact 𝓤 (t ≡ getD ts place (idleRecord emptyList)))) (fetch-fact 𝓤 H A mem run (α ∷ []) (shown δ) place t) $ heard ! (t ≡ getD ts place (idleRecord emptyList)) (λ e.
-      split ! $ move ! (1 ∷ []) $ facts ! T.the-row (Is T.the-row) (shows-of 𝓤 H A T.the-row) t (v ∷ []) (λ is. split ! $ keep ! (0 ∷ []) $
-      at-once ! $ show ! (λ (t′ : Record). guard 𝓤 (Got task ts t′ v) (A .lft (α ∷ []) fullShare)) t $ by ! (guardI 𝓤 (Got task ts t v) (A .lft (α ∷ []) fullShare) (e, is)))))
+        qed W (raw (Fetch 𝓤 H A mem run .post (to-fetch α δ) v) ∷ []) ∵ updating ! $
+        use1 W (later (some (λ (t : Record). ((‵ (flft (α ∷ []) fullShare) ⊛ ‵ ftrue) ⊛ ‵ (T.the-row .own t (v ∷ []))) ⊛ raw (ensured 𝓤 H A fetch.ended (fetch.clauses 𝓤 H A mem run) (α ∷ [], tt) (shown δ, (place, tt)) tt t)))) (id⊢ 𝓤 _) $
+        await ! tt $ pick ! (λ t. split ! $ move ! (1 ∷ []) $ use1 W (raw (fact 𝓤 (t ≡ getD ts place (idleRecord emptyList)))) (fetch-fact 𝓤 H A mem run (α ∷ []) (shown δ) place t) $ heard ! (t ≡ getD ts place (idleRecord emptyList)) (λ e.
+        split ! $ move ! (1 ∷ []) $ facts ! T.the-row (Is T.the-row) (shows-of 𝓤 H A T.the-row) t (v ∷ []) (λ is. split ! $ keep ! (0 ∷ []) $
+        at-once ! $ show ! (λ (t′ : Record). guard 𝓤 (Got task ts t′ v) (A .lft (α ∷ []) fullShare)) t $ by ! (guardI 𝓤 (Got task ts t v) (A .lft (α ∷ []) fullShare) (e, is)))))
 
     pub fetched : Triple 𝓤 (C #fetch) (Fetch 𝓤 H A mem run) → place < 2 ^ 64 → (α : ℕ) (δ : GName) → ent 𝓤 (⋆ 𝓤 H A (Show α δ)) (C #fetch (shown-val ∷ vint w64 place ∷ []) (λ v. mean 𝓤 H A (FetchPost α v)))
     fetched known fits α δ = made 𝓤 H (W .laws) C fm #fetch (Fetch 𝓤 H A mem run) known (to-fetch α δ) (⋆ 𝓤 H A (Show α δ)) (λ v. mean 𝓤 H A (FetchPost α v)) (goes-fetch fits α δ) (hears-fetch α δ)
@@ -153,18 +153,18 @@ module _ {M : Type 1} (𝓤 : URA M) (H : Heap 𝓤) (A : Atoms 𝓤) (W : Given
 
     goes-settle : (u : Settled) → Is U.the-row u (mach-settled u ∷ []) → ent 𝓤 (⋆ 𝓤 H A Hand) (Settle 𝓤 H A mem run .pre (to-settle u))
     goes-settle u is =
-      qed W Hand ∵ nothing ! $ owned ! U.the-row (Is U.the-row) (LL.makes U.the-type U′.the-plain 𝓤 H A) u _ is $ fjoin ! $ move ! (2 ∷ 0 ∷ []) $ fjoin ! $ nothing ! $ move ! (2 ∷ 0 ∷ []) $ join ! $ join ! $ frame ! $ done !
+        qed W Hand ∵ nothing ! $ owned ! U.the-row (Is U.the-row) (LL.makes U.the-type U′.the-plain 𝓤 H A) u _ is $ fjoin ! $ move ! (2 ∷ 0 ∷ []) $ fjoin ! $ nothing ! $ move ! (2 ∷ 0 ∷ []) $ join ! $ join ! $ frame ! $ done !
 
     hears-settle : (u : Settled) (v : Val) → ent 𝓤 (Settle 𝓤 H A mem run .post (to-settle u) v) (mean 𝓤 H A (SettlePost u v))
     hears-settle u v =
-      qed W (raw (Settle 𝓤 H A mem run .post (to-settle u) v) ∷ []) ∵ updating ! $
-      use1 W (later (some (λ (n : Unit {0}). ((‵ (flft κ q) ⊛ ‵ ftrue) ⊛ ‵ (Nothing .own n (v ∷ []))) ⊛ raw (ensured 𝓤 H A settle.ended (settle.clauses 𝓤 H A mem run) (κ, tt) (handed, (u, tt)) tt n)))) (id⊢ 𝓤 _) $ await ! tt $ pick ! (λ n.
-      split ! $ move ! (1 ∷ []) $ use1 W (some (λ (ls : List Record × (Unit {0} × Unit {0})). ‵ (lasts settle.ended (κ, tt) (handed, (u, tt)) ls) ⊛ raw (fact 𝓤 (ls .0 ≡ settledIn u ts)))) (id⊢ 𝓤 _) $ pick ! (λ ls.
-      split ! $ move ! (1 ∷ []) $ heard ! (ls .0 ≡ settledIn u ts) (λ e. fsplit ! $ fsplit ! $ move ! (1 ∷ []) $ feqL ! (λ len.
-      -- [the last list; …; the token and the result]
-      move ! (2 ∷ []) $ split ! $ move ! (1 ∷ []) $ facts ! Nothing (Is Nothing) (shows-of 𝓤 H A Nothing) n (v ∷ []) (λ is. split ! $ keep ! (0 ∷ 2 ∷ []) $
-      at-once ! $ show ! (λ (zs : List Record). guard 𝓤 (Left ts u zs × v ≡ vunit) (⋆ 𝓤 H A (‵ (flft κ q) ∷ ‵ (finally T.the-row γ zs) ∷ []))) (ls .0) $
-      by ! (guardI 𝓤 (Left ts u (ls .0) × v ≡ vunit) (⋆ 𝓤 H A (‵ (flft κ q) ∷ ‵ (finally T.the-row γ (ls .0)) ∷ [])) ((e, len), ap only is)))))))
+        qed W (raw (Settle 𝓤 H A mem run .post (to-settle u) v) ∷ []) ∵ updating ! $
+        use1 W (later (some (λ (n : Unit {0}). ((‵ (flft κ q) ⊛ ‵ ftrue) ⊛ ‵ (Nothing .own n (v ∷ []))) ⊛ raw (ensured 𝓤 H A settle.ended (settle.clauses 𝓤 H A mem run) (κ, tt) (handed, (u, tt)) tt n)))) (id⊢ 𝓤 _) $ await ! tt $ pick ! (λ n.
+        split ! $ move ! (1 ∷ []) $ use1 W (some (λ (ls : List Record × (Unit {0} × Unit {0})). ‵ (lasts settle.ended (κ, tt) (handed, (u, tt)) ls) ⊛ raw (fact 𝓤 (ls .0 ≡ settledIn u ts)))) (id⊢ 𝓤 _) $ pick ! (λ ls.
+        split ! $ move ! (1 ∷ []) $ heard ! (ls .0 ≡ settledIn u ts) (λ e. fsplit ! $ fsplit ! $ move ! (1 ∷ []) $ feqL ! (λ len.
+        -- [the last list; …; the token and the result]
+        move ! (2 ∷ []) $ split ! $ move ! (1 ∷ []) $ facts ! Nothing (Is Nothing) (shows-of 𝓤 H A Nothing) n (v ∷ []) (λ is. split ! $ keep ! (0 ∷ 2 ∷ []) $
+        at-once ! $ show ! (λ (zs : List Record). guard 𝓤 (Left ts u zs × v ≡ vunit) (⋆ 𝓤 H A (‵ (flft κ q) ∷ ‵ (finally T.the-row γ zs) ∷ []))) (ls .0) $
+        by ! (guardI 𝓤 (Left ts u (ls .0) × v ≡ vunit) (⋆ 𝓤 H A (‵ (flft κ q) ∷ ‵ (finally T.the-row γ (ls .0)) ∷ [])) ((e, len), ap only is)))))))
 
     pub settles : Triple 𝓤 (C #settle) (Settle 𝓤 H A mem run) → (u : Settled) → Is U.the-row u (mach-settled u ∷ []) → ent 𝓤 (⋆ 𝓤 H A Hand) (C #settle (handed-val ∷ mach-settled u ∷ []) (λ v. mean 𝓤 H A (SettlePost u v)))
     settles known u is = made 𝓤 H (W .laws) C fm #settle (Settle 𝓤 H A mem run) known (to-settle u) (⋆ 𝓤 H A Hand) (λ v. mean 𝓤 H A (SettlePost u v)) (goes-settle u is) (hears-settle u)

@@ -4,4 +4,5 @@ pub mod Cited
 pub mod Size
 pub mod Filled
 pub mod Callees
+pub mod Arrays
 pub mod Works

@@ -2,3 +2,4 @@ pub mod Works
 pub mod Plain
 pub mod Robust
 pub mod Docks
+pub mod Lent

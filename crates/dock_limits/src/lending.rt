@@ -9,7 +9,7 @@ use turns::PlainOutcome;
 use turns::RobustOutcome;
 use unique_index_set::UniqueIndexSet;
 ghost use Prim.Native.Nat.{_≤_};
-ghost use Rattle.dock_limits.specs.Lent.{PlainLentAs, RobustLentAs};
+ghost use Rattle.dock.specs.Lent.{PlainLentAs, RobustLentAs};
 
 pub(crate) struct PlainLent {
     pub(crate) table: [Record; 17],
@@ -25,7 +25,7 @@ pub(crate) fn plain_lent(
     task: Task,
 ) -> PlainLent
     requires { ⌜ records ≤ 17 ⌝ }
-    ensures { λ r. ⌜ PlainLentAs table records set task (now (slots .entry)) (now (custody .entry)) r (now (slots .exit)) (now (custody .exit)) ⌝ }
+    ensures { λ r. ⌜ PlainLentAs table records set task (now (slots .entry)) (now (custody .entry)) (r .outcome) (r .table) (now (slots .exit)) (now (custody .exit)) ⌝ }
 {
     let mut held = table;
     let outcome = plain_dock(&mut held[..records], slots, custody, set, task);
@@ -48,7 +48,7 @@ pub(crate) fn robust_lent(
     task: Task,
 ) -> RobustLent
     requires { ⌜ records ≤ 17 ⌝ }
-    ensures { λ r. ⌜ RobustLentAs table records set task (now (cells .entry)) r (now (cells .exit)) ⌝ }
+    ensures { λ r. ⌜ RobustLentAs table records set task (now (cells .entry)) (r .outcome) (r .table) (now (cells .exit)) ⌝ }
 {
     let mut held = table;
     let outcome = robust_dock(&mut held[..records], cells, set, task);

@@ -176,42 +176,42 @@ module _ {M : Type 1} (𝓤 : URA M) (H : Heap 𝓤) (A : Atoms 𝓤) (W : Given
 
     goes-work : (t : Record) (v : Val) → Got task ts t v → ent 𝓤 Before (DoWork 𝓤 H A mem run .pre (to-work t v))
     goes-work t v got =
-      qed W (Toks ∷ Own₁ ∷ Own₂ ∷ []) ∵ nothing ! $ move ! (3 ∷ 0 ∷ []) $ fjoin ! $ move ! (2 ∷ 0 ∷ []) $ fjoin ! $
-      owned ! K.the-row (Is K.the-row) (LL.makes K.the-type K′.the-plain 𝓤 H A) task _ is-task $ fjoin ! $ owned ! usize (Is usize) (uint-makes 𝓤 H A W w64) (length ts) _ (refl, room .0) $ fjoin ! $
-      owned ! T.the-row (Is T.the-row) (LL.makes T.the-type T′.the-plain 𝓤 H A) t _ (got .1) $ fjoin ! $ owned ! S.the-row (Is S.the-row) (LL.makes S.the-type S′.the-plain 𝓤 H A) set _ is-set $ fjoin ! $
-      move ! (1 ∷ 0 ∷ []) $ join ! $ frame ! $ done !
+        qed W (Toks ∷ Own₁ ∷ Own₂ ∷ []) ∵ nothing ! $ move ! (3 ∷ 0 ∷ []) $ fjoin ! $ move ! (2 ∷ 0 ∷ []) $ fjoin ! $
+        owned ! K.the-row (Is K.the-row) (LL.makes K.the-type K′.the-plain 𝓤 H A) task _ is-task $ fjoin ! $ owned ! usize (Is usize) (uint-makes 𝓤 H A W w64) (length ts) _ (refl, room .0) $ fjoin ! $
+        owned ! T.the-row (Is T.the-row) (LL.makes T.the-type T′.the-plain 𝓤 H A) t _ (got .1) $ fjoin ! $ owned ! S.the-row (Is S.the-row) (LL.makes S.the-type S′.the-plain 𝓤 H A) set _ is-set $ fjoin ! $
+        move ! (1 ∷ 0 ∷ []) $ join ! $ frame ! $ done !
 
     hears-work : (t : Record) (v : Val) (v′ : Val) → ent 𝓤 (DoWork 𝓤 H A mem run .post (to-work t v) v′) (mean 𝓤 H A (WorkPost t v′))
     hears-work t v v′ =
-      qed W (raw (DoWork 𝓤 H A mem run .post (to-work t v) v′) ∷ []) ∵ updating ! $
-      use1 W (later (some (λ (m : PlainWorked). (Toks ⊛ ‵ (M′.the-row .own m (v′ ∷ []))) ⊛ raw (ensured 𝓤 H A plain-work.ended (plain-work.clauses 𝓤 H A mem run) (κ₁, (κ₂, tt)) (set, (t, (length ts, (task, (x₁, (x₂, tt)))))) tt m)))) (id⊢ 𝓤 _) $ await ! tt $ pick ! (λ m.
-      split ! $ move ! (1 ∷ []) $ use1 W (some (λ (ls : Unit {0} × (Unit {0} × (Unit {0} × (Unit {0} × (List ℕ × (List ℕ × Unit {0})))))). ‵ (lasts plain-work.ended (κ₁, (κ₂, tt)) (set, (t, (length ts, (task, (x₁, (x₂, tt)))))) ls) ⊛ raw (fact 𝓤 (plainLeft m (ls .1 .1 .1 .1 .0) (ls .1 .1 .1 .1 .1 .0) ≡ plainWorkOf (length ts) (task .work) (task .brought) (shared set ss cs) t)))) (id⊢ 𝓤 _) $ pick ! (λ ls.
-      split ! $ move ! (1 ∷ []) $ heard ! (plainLeft m (ls .1 .1 .1 .1 .0) (ls .1 .1 .1 .1 .1 .0) ≡ plainWorkOf (length ts) (task .work) (task .brought) (shared set ss cs) t) (λ e. fsplit ! $ drop ! $ fsplit ! $ drop ! $ fsplit ! $ drop ! $ fsplit ! $ drop ! $
-      fsplit ! $ fsplit ! $ move ! (1 ∷ []) $ feqL ! (λ len₁. move ! (1 ∷ []) $ fsplit ! $ fsplit ! $ move ! (1 ∷ []) $ feqL ! (λ len₂.
-      -- [custody's last list; …; the slots'; the tokens and the result]
-      move ! (3 ∷ []) $ split ! $ move ! (1 ∷ []) $ facts ! M′.the-row (Is M′.the-row) (shows-of 𝓤 H A M′.the-row) m (v′ ∷ []) (λ has. keep ! (0 ∷ 1 ∷ 3 ∷ []) $
-      at-once ! $ show ! (λ (w : Wk). guard 𝓤 (Did t w v′) (After w)) (m, ((ls .1 .1 .1 .1 .0), (ls .1 .1 .1 .1 .1 .0))) $ by ! (guardI 𝓤 (Did t (m, ((ls .1 .1 .1 .1 .0), (ls .1 .1 .1 .1 .1 .0))) v′) (After (m, ((ls .1 .1 .1 .1 .0), (ls .1 .1 .1 .1 .1 .0)))) (e, (has, (len₁, len₂))))))))))
+        qed W (raw (DoWork 𝓤 H A mem run .post (to-work t v) v′) ∷ []) ∵ updating ! $
+        use1 W (later (some (λ (m : PlainWorked). (Toks ⊛ ‵ (M′.the-row .own m (v′ ∷ []))) ⊛ raw (ensured 𝓤 H A plain-work.ended (plain-work.clauses 𝓤 H A mem run) (κ₁, (κ₂, tt)) (set, (t, (length ts, (task, (x₁, (x₂, tt)))))) tt m)))) (id⊢ 𝓤 _) $ await ! tt $ pick ! (λ m.
+        split ! $ move ! (1 ∷ []) $ use1 W (some (λ (ls : Unit {0} × (Unit {0} × (Unit {0} × (Unit {0} × (List ℕ × (List ℕ × Unit {0})))))). ‵ (lasts plain-work.ended (κ₁, (κ₂, tt)) (set, (t, (length ts, (task, (x₁, (x₂, tt)))))) ls) ⊛ raw (fact 𝓤 (plainLeft m (ls .1 .1 .1 .1 .0) (ls .1 .1 .1 .1 .1 .0) ≡ plainWorkOf (length ts) (task .work) (task .brought) (shared set ss cs) t)))) (id⊢ 𝓤 _) $ pick ! (λ ls.
+        split ! $ move ! (1 ∷ []) $ heard ! (plainLeft m (ls .1 .1 .1 .1 .0) (ls .1 .1 .1 .1 .1 .0) ≡ plainWorkOf (length ts) (task .work) (task .brought) (shared set ss cs) t) (λ e. fsplit ! $ drop ! $ fsplit ! $ drop ! $ fsplit ! $ drop ! $ fsplit ! $ drop ! $
+        fsplit ! $ fsplit ! $ move ! (1 ∷ []) $ feqL ! (λ len₁. move ! (1 ∷ []) $ fsplit ! $ fsplit ! $ move ! (1 ∷ []) $ feqL ! (λ len₂.
+        -- [custody's last list; …; the slots'; the tokens and the result]
+        move ! (3 ∷ []) $ split ! $ move ! (1 ∷ []) $ facts ! M′.the-row (Is M′.the-row) (shows-of 𝓤 H A M′.the-row) m (v′ ∷ []) (λ has. keep ! (0 ∷ 1 ∷ 3 ∷ []) $
+        at-once ! $ show ! (λ (w : Wk). guard 𝓤 (Did t w v′) (After w)) (m, ((ls .1 .1 .1 .1 .0), (ls .1 .1 .1 .1 .1 .0))) $ by ! (guardI 𝓤 (Did t (m, ((ls .1 .1 .1 .1 .0), (ls .1 .1 .1 .1 .1 .0))) v′) (After (m, ((ls .1 .1 .1 .1 .0), (ls .1 .1 .1 .1 .1 .0)))) (e, (has, (len₁, len₂))))))))))
 
     exits : (t : Record) (v : Val) → Got task ts t v → (w : Wk) (v′ : Val) → Did t w v′ → (zs : List Record) → Left ts (w .0 .settled) zs → ent 𝓤 (⋆ 𝓤 H A (‵ (flft κ q) ∷ ‵ (finally T.the-row γ zs) ∷ raw (After w) ∷ [])) (Post (out w))
     exits t v got w v′ did zs left =
-      qed W (‵ (flft κ q) ∷ ‵ (finally T.the-row γ zs) ∷ Toks ∷ ‵ (finally u32 (x₂ .name) (w .1 .1)) ∷ ‵ (finally u32 (x₁ .name) (w .1 .0)) ∷ []) ∵ suffices ! _ (ends-at 𝓤 H A dock.ended stayed (dock.clauses 𝓤 H A mem run) W bound (out w) (w .0 .outcome) (zs, (w .1 .0, (w .1 .1, (tt, (tt, tt))))) (left .1, (did .1 .1 .0, (did .1 .1 .1, (tt, (tt, tt)))))) $
-      says ! (plain-done (task .work) (task .brought) ts zs t (got .0) (shared set ss cs) (w .0) (w .1 .0) (w .1 .1) (did .0) (left .0)) $ move ! (0 ∷ 2 ∷ []) $ join ! $ frame ! $ nothing ! $ owned ! K.the-row (Is K.the-row) (LL.makes K.the-type K′.the-plain 𝓤 H A) task _ is-task $ fjoin ! $ owned ! S.the-row (Is S.the-row) (LL.makes S.the-type S′.the-plain 𝓤 H A) set _ is-set $ fjoin ! $ move ! (2 ∷ 0 ∷ []) $ fjoin ! $ move ! (2 ∷ 0 ∷ []) $ fjoin ! $ move ! (1 ∷ 0 ∷ []) $ fjoin ! $
-      owned ! O.the-row (Is O.the-row) (LL.makes O.the-type O′.the-plain 𝓤 H A) (w .0 .outcome) _ (out-is (w .0) v′ (did .1 .0)) $ move ! (1 ∷ 0 ∷ []) $ done !
+        qed W (‵ (flft κ q) ∷ ‵ (finally T.the-row γ zs) ∷ Toks ∷ ‵ (finally u32 (x₂ .name) (w .1 .1)) ∷ ‵ (finally u32 (x₁ .name) (w .1 .0)) ∷ []) ∵ suffices ! _ (ends-at 𝓤 H A dock.ended stayed (dock.clauses 𝓤 H A mem run) W bound (out w) (w .0 .outcome) (zs, (w .1 .0, (w .1 .1, (tt, (tt, tt))))) (left .1, (did .1 .1 .0, (did .1 .1 .1, (tt, (tt, tt)))))) $
+        says ! (plain-done (task .work) (task .brought) ts zs t (got .0) (shared set ss cs) (w .0) (w .1 .0) (w .1 .1) (did .0) (left .0)) $ move ! (0 ∷ 2 ∷ []) $ join ! $ frame ! $ nothing ! $ owned ! K.the-row (Is K.the-row) (LL.makes K.the-type K′.the-plain 𝓤 H A) task _ is-task $ fjoin ! $ owned ! S.the-row (Is S.the-row) (LL.makes S.the-type S′.the-plain 𝓤 H A) set _ is-set $ fjoin ! $ move ! (2 ∷ 0 ∷ []) $ fjoin ! $ move ! (2 ∷ 0 ∷ []) $ fjoin ! $ move ! (1 ∷ 0 ∷ []) $ fjoin ! $
+        owned ! O.the-row (Is O.the-row) (LL.makes O.the-type O′.the-plain 𝓤 H A) (w .0 .outcome) _ (out-is (w .0) v′ (did .1 .0)) $ move ! (1 ∷ 0 ∷ []) $ done !
 
     whole-walk : ent 𝓤 (onEntry 𝓤 H A dock.signature (κ, (κ₁, (κ₂, tt))) (q, (q₁, (q₂, tt))) a vals) (WpFn 𝓤 H C Λ code.function (s ∷ s₁ ∷ s₂ ∷ mach-set ∷ mach-task ∷ []) Post)
     whole-walk =
-      qed W ((‵ (flft κ q) ⊛ Toks) ∷ ‵ (owns (MutSlice (named 0) κ T.the-row ∷ MutSlice (named 1) κ₁ u32 ∷ MutSlice (named 2) κ₂ u32 ∷ S.the-row ∷ K.the-row ∷ []) a vals) ∷ []) ∵ split ! $ move ! (2 ∷ []) $ fsplit ! $ move ! (1 ∷ []) $ fsplit ! $ move ! (1 ∷ []) $ fsplit ! $ keep ! (3 ∷ 4 ∷ 5 ∷ 2 ∷ 0 ∷ []) $
-      by ! (walk 𝓤 H A W C Λ fm (entry lines.table) T.the-row Post κ q b o γ ts room (x₁ .ptr) (x₂ .ptr) (length ss) (length cs) (room₁ .0) (room₂ .0) mach-set mach-task
-      (LL.lawful S.the-type S′.the-laws 𝓤 H A W .typed set (mach-set ∷ []) is-set .0) (LL.lawful K.the-type K′.the-laws 𝓤 H A W .typed task (mach-task ∷ []) is-task .0)
-      place (Got task ts) Wk settled out Did (λ w. Left ts (w .0 .settled)) Before After
-      (λ t v got. LL.lawful T.the-type T′.the-laws 𝓤 H A W .typed t (v ∷ []) (got .1) .0)
-      (λ t w v did. ap only (LL.tells M′.the-type M″.the-laws (w .0) (v ∷ []) (did .1 .0)))
-      (λ t w v did. LL.lawful M′.the-type M″.the-laws 𝓤 H A W .typed (w .0) (v ∷ []) (did .1 .0) .0)
-      (λ t w v did. LL.lawful O.the-type O′.the-laws 𝓤 H A W .typed (w .0 .outcome) (out w ∷ []) (out-is (w .0) v (did .1 .0)) .0)
-      (placed 𝓤 H A W mem run C fm task is-task known-place) (fetched 𝓤 H A W mem run C fm task ts b o known-fetch)
-      (λ t v got. made 𝓤 H (W .laws) C fm #work (DoWork 𝓤 H A mem run) known-work (to-work t v) Before (λ v′. mean 𝓤 H A (WorkPost t v′)) (goes-work t v got) (hears-work t v))
-      (λ t w v did. settles 𝓤 H A W mem run C fm ts b o κ q γ known-settle (w .0 .settled) (settled-is (w .0) v (did .1 .0)))
-      exits)
+        qed W ((‵ (flft κ q) ⊛ Toks) ∷ ‵ (owns (MutSlice (named 0) κ T.the-row ∷ MutSlice (named 1) κ₁ u32 ∷ MutSlice (named 2) κ₂ u32 ∷ S.the-row ∷ K.the-row ∷ []) a vals) ∷ []) ∵ split ! $ move ! (2 ∷ []) $ fsplit ! $ move ! (1 ∷ []) $ fsplit ! $ move ! (1 ∷ []) $ fsplit ! $ keep ! (3 ∷ 4 ∷ 5 ∷ 2 ∷ 0 ∷ []) $
+        by ! (walk 𝓤 H A W C Λ fm (entry lines.table) T.the-row Post κ q b o γ ts room (x₁ .ptr) (x₂ .ptr) (length ss) (length cs) (room₁ .0) (room₂ .0) mach-set mach-task
+        (LL.lawful S.the-type S′.the-laws 𝓤 H A W .typed set (mach-set ∷ []) is-set .0) (LL.lawful K.the-type K′.the-laws 𝓤 H A W .typed task (mach-task ∷ []) is-task .0)
+        place (Got task ts) Wk settled out Did (λ w. Left ts (w .0 .settled)) Before After
+        (λ t v got. LL.lawful T.the-type T′.the-laws 𝓤 H A W .typed t (v ∷ []) (got .1) .0)
+        (λ t w v did. ap only (LL.tells M′.the-type M″.the-laws (w .0) (v ∷ []) (did .1 .0)))
+        (λ t w v did. LL.lawful M′.the-type M″.the-laws 𝓤 H A W .typed (w .0) (v ∷ []) (did .1 .0) .0)
+        (λ t w v did. LL.lawful O.the-type O′.the-laws 𝓤 H A W .typed (w .0 .outcome) (out w ∷ []) (out-is (w .0) v (did .1 .0)) .0)
+        (placed 𝓤 H A W mem run C fm task is-task known-place) (fetched 𝓤 H A W mem run C fm task ts b o known-fetch)
+        (λ t v got. made 𝓤 H (W .laws) C fm #work (DoWork 𝓤 H A mem run) known-work (to-work t v) Before (λ v′. mean 𝓤 H A (WorkPost t v′)) (goes-work t v got) (hears-work t v))
+        (λ t w v did. settles 𝓤 H A W mem run C fm ts b o κ q γ known-settle (w .0 .settled) (settled-is (w .0) v (did .1 .0)))
+        exits)
 
 module _ {M : Type 1} (𝓤 : URA M) (H : Heap 𝓤) (A : Atoms 𝓤) (W : Given 𝓤 H A) (mem : Memory → SProp 𝓤) (run : Routine → Fun 𝓤) (𝓣 : Tables 𝓤 H) (known-place : Triple 𝓤 (𝓣 .C #place) (Place 𝓤 H A mem run)) (known-fetch : Triple 𝓤 (𝓣 .C #fetch) (Fetch 𝓤 H A mem run)) (known-work : Triple 𝓤 (𝓣 .C #work) (DoWork 𝓤 H A mem run)) (known-settle : Triple 𝓤 (𝓣 .C #settle) (Settle 𝓤 H A mem run)) where
   dock-walks : Walks 𝓤 H A dock.ended stayed (WpFn 𝓤 H (𝓣 .C) (𝓣 .Λ) code.function) (dock.clauses 𝓤 H A mem run)

@@ -59,7 +59,7 @@ use Rattle.dock.proofs.plain_dock.Symbol as dock-def
 use Rattle.dock.proofs.plain_dock.Symbol.{name as #dock}
 use Rattle.dock.proofs.plain_dock.Met as dock-thm
 use Rattle.dock_limits.specs.declared.lending.PlainLent.{PlainLent}
-use Rattle.dock_limits.proofs.Arrays.{length-first, as-field}
+use Rattle.dock.proofs.Arrays.{length-first, as-field}
 use Rattle.dock_limits.proofs.lending.PlainLent as L
 use Rattle.dock_limits.proofs.lending.PlainLent.Laws as L′
 use Rattle.dock_limits.proofs.lending.plain_lent as lent

@@ -60,7 +60,7 @@ use Rattle.dock.proofs.robust_dock.Symbol as dock-def
 use Rattle.dock.proofs.robust_dock.Symbol.{name as #dock}
 use Rattle.dock.proofs.robust_dock.Met as dock-thm
 use Rattle.dock_limits.specs.declared.lending.RobustLent.{RobustLent}
-use Rattle.dock_limits.proofs.Arrays.{length-first, as-field}
+use Rattle.dock.proofs.Arrays.{length-first, as-field}
 use Rattle.dock_limits.proofs.lending.RobustLent as L
 use Rattle.dock_limits.proofs.lending.RobustLent.Laws as L′
 use Rattle.dock_limits.proofs.lending.robust_lent as lent

@@ -103,34 +103,34 @@ module _ {M : Type 1} (𝓤 : URA M) (H : Heap 𝓤) (A : Atoms 𝓤) (W : Given
       (exits : (t : R .Denot) (v : Val) → Got t v → (w : Wk) (v′ : Val) → Did t w v′ → (zs : List (R .Denot)) → Left w zs → ent 𝓤 (⋆ 𝓤 H A (‵ (flft κ q) ∷ ‵ (finally R γ zs) ∷ raw (After w) ∷ [])) (Post (out w))) where
     pub walk : ent 𝓤 (⋆ 𝓤 H A (Own ∷ ‵ (flft κ q) ∷ raw Before ∷ [])) (WpFn 𝓤 H C Λ function (s ∷ s₁ ∷ set ∷ task ∷ []) Post)
     walk =
-      qed W (Own ∷ ‵ (flft κ q) ∷ raw Before ∷ []) ∵ enter ! C Λ function (s ∷ s₁ ∷ set ∷ task ∷ []) _ $
-      alloc1 ! (λ l₀. alloc1 ! (λ l₁. alloc1 ! (λ l₂. alloc1 ! (λ l₃. alloc1 ! (λ l₄. alloc1 ! (λ l₅. alloc1 ! (λ l₆. alloc1 ! (λ l₇. alloc1 ! (λ l₈. alloc1 ! (λ l₉. alloc1 ! (λ l₁₀. alloc1 ! (λ l₁₁. alloc1 ! (λ l₁₂. alloc1 ! (λ l₁₃. alloc1 ! (λ l₁₄. alloc0 ! $ params1 ! $
-      pass1 ! (init ! 26 refl (tt, (tt, (record { fits = room .0 }, tt)))) $ pass1 ! (init ! 24 refl (tt, (tt, (record { fits = room₁ }, tt)))) $ pass1 ! (init ! 22 refl set-typed) $ pass1 ! (init ! 20 refl task-typed) $ pass0 ! $ move ! (30 ∷ 31 ∷ 32 ∷ []) $
-      -- [the records; their token; what the work asks for; the last local; …; and so on to room for _0; …]
-      assigns ! (addr ! (from ! (fld ! refl (hop ! (look-in ! 29 (sub ! 0 refl (whole !))) (stop !))))) (from ! (stop !)) (init ! 17 refl (tt, tt)) $
-      assigns ! (agg ! (and-then ! (load ! (from ! (stop !)) (look ! 17 refl)) (and-then ! (load ! (from ! (fld ! refl (stop !))) (look-in ! 29 (sub ! 1 refl (whole !)))) (no-more !)))) (from ! (stop !)) (init ! 15 refl (tt, (tt, (record { fits = room .0 }, tt)))) $
-      use0 W (raw (C #place (task ∷ []) (λ v. mean 𝓤 H A (PlacePost v)))) place-met $
-      calls ! fm PlacePost (and-then ! (load ! (from ! (stop !)) (look ! 24 refl)) (no-more !)) (λ v. await ! tt $ learn ! (λ e.
-      land ! (from ! (stop !)) (init ! 14 refl (place-typed v e)) $ rewrite ! 14 (λ (z : Val). ‵ (fat fullShare (tyInt w64) l₉ 0 z)) (e .0) refl $ drop ! $
-      -- the records are lent again, to be looked at, for a lifetime that is made here
-      lft-new ! tt (λ α. move ! (1 ∷ 2 ∷ []) $
-      use2 W (later (some (λ (γ₁ : GName). ‵ (ShrSlice (named 0) (α ∷ []) R .own (x γ₁) (s ∷ [])) ⊛ ‵ (Shown R κ (α ∷ []) q γ b o ts)))) (shows R κ (α ∷ []) q γ b o ts 𝓤 H A W (named 0) (named 0)) $ await ! tt $ pick ! (λ γ₁. split ! $
-      move ! (2 ∷ 0 ∷ []) $ use2 W (raw (C #fetch (s ∷ vint w64 place ∷ []) (λ v₁. mean 𝓤 H A (FetchPost α v₁)))) (fetch-met (e .1) α γ₁) $
-      calls ! fm (FetchPost α) (and-then ! (load ! (from ! (stop !)) (look ! 15 refl)) (and-then ! (load ! (from ! (stop !)) (look ! 13 refl)) (no-more !))) (λ v₁. await ! tt $ pick ! (λ t. learn ! (λ got.
-      land ! (from ! (stop !)) (init ! 21 refl (got-typed t v₁ got)) $
-      lft-end ! tt $ use2 W (later (Own ⊛ ‵ (flft κ q))) (hides R κ (α ∷ []) q γ b o ts 𝓤 H A W (named 0) (named 0) room) $ await ! tt $ split ! $
-      assigns ! (of-opd ! (load ! (from ! (fld ! refl (stop !))) (look-in ! 29 (sub ! 1 refl (whole !))))) (from ! (stop !)) (store ! 13 refl (tt, record { fits = room .0 })) $
-      assigns ! (addr ! (from ! (fld ! refl (hop ! (look-in ! 27 (sub ! 0 refl (whole !))) (stop !))))) (from ! (stop !)) (init ! 11 refl (tt, tt)) $
-      assigns ! (agg ! (and-then ! (load ! (from ! (stop !)) (look ! 11 refl)) (and-then ! (load ! (from ! (fld ! refl (stop !))) (look-in ! 27 (sub ! 1 refl (whole !)))) (no-more !)))) (from ! (stop !)) (init ! 9 refl (tt, (tt, (record { fits = room₁ }, tt)))) $
-      move ! (2 ∷ []) $ use1 W (raw (C #work (set ∷ v₁ ∷ vint w64 (length ts) ∷ task ∷ s₁ ∷ []) (λ v₂. mean 𝓤 H A (WorkPost t v₂)))) (work-met t v₁ got) $
-      calls ! fm (WorkPost t) (and-then ! (load ! (from ! (stop !)) (look ! 25 refl)) (and-then ! (load ! (from ! (stop !)) (look ! 21 refl)) (and-then ! (load ! (from ! (stop !)) (look ! 13 refl)) (and-then ! (load ! (from ! (stop !)) (look ! 23 refl)) (and-then ! (load ! (from ! (stop !)) (look ! 9 refl)) (no-more !)))))) (λ v₂. await ! tt $ pick ! (λ w. learn ! (λ did.
-      land ! (from ! (stop !)) (init ! 19 refl (did-typed t w v₂ did)) $ rewrite ! 19 (λ (z : Val). ‵ (fat fullShare Worked l₆ 0 z)) (did-value t w v₂ did) refl $
-      assigns ! (addr ! (from ! (fld ! refl (hop ! (look-in ! 29 (sub ! 0 refl (whole !))) (stop !))))) (from ! (stop !)) (init ! 5 refl (tt, tt)) $
-      assigns ! (agg ! (and-then ! (load ! (from ! (stop !)) (look ! 5 refl)) (and-then ! (load ! (from ! (fld ! refl (stop !))) (look-in ! 29 (sub ! 1 refl (whole !)))) (no-more !)))) (from ! (stop !)) (init ! 3 refl (tt, (tt, (record { fits = room .0 }, tt)))) $
-      move ! (2 ∷ 1 ∷ []) $ use2 W (raw (C #settle (s ∷ settled w ∷ []) (λ v₃. mean 𝓤 H A (SettlePost w v₃)))) (settle-met t w v₂ did) $
-      calls ! fm (SettlePost w) (and-then ! (load ! (from ! (stop !)) (look ! 2 refl)) (and-then ! (load ! (from ! (fld ! refl (stop !))) (look-in ! 18 (sub ! 0 refl (whole !)))) (no-more !))) (λ v₃. await ! tt $ pick ! (λ zs. learn ! (λ left.
-      land ! (from ! (stop !)) (init ! 6 refl (unit-typed v₃ (left .1))) $
-      assigns ! (of-opd ! (load ! (from ! (fld ! refl (stop !))) (look-in ! 18 (sub ! 1 refl (whole !))))) (from ! (stop !)) (init ! 30 refl (out-typed t w v₂ did)) $
-      returns ! (look ! 30 refl) $ forget ! 2 refl $ forget ! 4 refl $ forget ! 6 refl $ forget ! 8 refl $ forget ! 10 refl $ forget ! 12 refl $ forget ! 14 refl $ forget ! 16 refl $ forget ! 18 refl $ forget ! 20 refl $ forget ! 22 refl $ forget ! 24 refl $ forget ! 26 refl $ forget ! 28 refl $ forget ! 30 refl $
-      move ! (30 ∷ 31 ∷ []) $ free1 ! $ move ! (28 ∷ 29 ∷ []) $ free1 ! $ move ! (26 ∷ 27 ∷ []) $ free1 ! $ move ! (24 ∷ 25 ∷ []) $ free1 ! $ move ! (22 ∷ 23 ∷ []) $ free1 ! $ move ! (20 ∷ 21 ∷ []) $ free1 ! $ move ! (18 ∷ 19 ∷ []) $ free1 ! $ move ! (16 ∷ 17 ∷ []) $ free1 ! $ move ! (14 ∷ 15 ∷ []) $ free1 ! $ move ! (12 ∷ 13 ∷ []) $ free1 ! $ move ! (10 ∷ 11 ∷ []) $ free1 ! $ move ! (8 ∷ 9 ∷ []) $ free1 ! $ move ! (6 ∷ 7 ∷ []) $ free1 ! $ move ! (4 ∷ 5 ∷ []) $ free1 ! $ move ! (2 ∷ 3 ∷ []) $ free1 ! $ free0 ! $
-      split ! $ by ! (exits t v₁ got w v₂ did zs (left .0))))))))))))))))))))))))))))))
+        qed W (Own ∷ ‵ (flft κ q) ∷ raw Before ∷ []) ∵ enter ! C Λ function (s ∷ s₁ ∷ set ∷ task ∷ []) _ $
+        alloc1 ! (λ l₀. alloc1 ! (λ l₁. alloc1 ! (λ l₂. alloc1 ! (λ l₃. alloc1 ! (λ l₄. alloc1 ! (λ l₅. alloc1 ! (λ l₆. alloc1 ! (λ l₇. alloc1 ! (λ l₈. alloc1 ! (λ l₉. alloc1 ! (λ l₁₀. alloc1 ! (λ l₁₁. alloc1 ! (λ l₁₂. alloc1 ! (λ l₁₃. alloc1 ! (λ l₁₄. alloc0 ! $ params1 ! $
+        pass1 ! (init ! 26 refl (tt, (tt, (record { fits = room .0 }, tt)))) $ pass1 ! (init ! 24 refl (tt, (tt, (record { fits = room₁ }, tt)))) $ pass1 ! (init ! 22 refl set-typed) $ pass1 ! (init ! 20 refl task-typed) $ pass0 ! $ move ! (30 ∷ 31 ∷ 32 ∷ []) $
+        -- [the records; their token; what the work asks for; the last local; …; and so on to room for _0; …]
+        assigns ! (addr ! (from ! (fld ! refl (hop ! (look-in ! 29 (sub ! 0 refl (whole !))) (stop !))))) (from ! (stop !)) (init ! 17 refl (tt, tt)) $
+        assigns ! (agg ! (and-then ! (load ! (from ! (stop !)) (look ! 17 refl)) (and-then ! (load ! (from ! (fld ! refl (stop !))) (look-in ! 29 (sub ! 1 refl (whole !)))) (no-more !)))) (from ! (stop !)) (init ! 15 refl (tt, (tt, (record { fits = room .0 }, tt)))) $
+        use0 W (raw (C #place (task ∷ []) (λ v. mean 𝓤 H A (PlacePost v)))) place-met $
+        calls ! fm PlacePost (and-then ! (load ! (from ! (stop !)) (look ! 24 refl)) (no-more !)) (λ v. await ! tt $ learn ! (λ e.
+        land ! (from ! (stop !)) (init ! 14 refl (place-typed v e)) $ rewrite ! 14 (λ (z : Val). ‵ (fat fullShare (tyInt w64) l₉ 0 z)) (e .0) refl $ drop ! $
+        -- the records are lent again, to be looked at, for a lifetime that is made here
+        lft-new ! tt (λ α. move ! (1 ∷ 2 ∷ []) $
+        use2 W (later (some (λ (γ₁ : GName). ‵ (ShrSlice (named 0) (α ∷ []) R .own (x γ₁) (s ∷ [])) ⊛ ‵ (Shown R κ (α ∷ []) q γ b o ts)))) (shows R κ (α ∷ []) q γ b o ts 𝓤 H A W (named 0) (named 0)) $ await ! tt $ pick ! (λ γ₁. split ! $
+        move ! (2 ∷ 0 ∷ []) $ use2 W (raw (C #fetch (s ∷ vint w64 place ∷ []) (λ v₁. mean 𝓤 H A (FetchPost α v₁)))) (fetch-met (e .1) α γ₁) $
+        calls ! fm (FetchPost α) (and-then ! (load ! (from ! (stop !)) (look ! 15 refl)) (and-then ! (load ! (from ! (stop !)) (look ! 13 refl)) (no-more !))) (λ v₁. await ! tt $ pick ! (λ t. learn ! (λ got.
+        land ! (from ! (stop !)) (init ! 21 refl (got-typed t v₁ got)) $
+        lft-end ! tt $ use2 W (later (Own ⊛ ‵ (flft κ q))) (hides R κ (α ∷ []) q γ b o ts 𝓤 H A W (named 0) (named 0) room) $ await ! tt $ split ! $
+        assigns ! (of-opd ! (load ! (from ! (fld ! refl (stop !))) (look-in ! 29 (sub ! 1 refl (whole !))))) (from ! (stop !)) (store ! 13 refl (tt, record { fits = room .0 })) $
+        assigns ! (addr ! (from ! (fld ! refl (hop ! (look-in ! 27 (sub ! 0 refl (whole !))) (stop !))))) (from ! (stop !)) (init ! 11 refl (tt, tt)) $
+        assigns ! (agg ! (and-then ! (load ! (from ! (stop !)) (look ! 11 refl)) (and-then ! (load ! (from ! (fld ! refl (stop !))) (look-in ! 27 (sub ! 1 refl (whole !)))) (no-more !)))) (from ! (stop !)) (init ! 9 refl (tt, (tt, (record { fits = room₁ }, tt)))) $
+        move ! (2 ∷ []) $ use1 W (raw (C #work (set ∷ v₁ ∷ vint w64 (length ts) ∷ task ∷ s₁ ∷ []) (λ v₂. mean 𝓤 H A (WorkPost t v₂)))) (work-met t v₁ got) $
+        calls ! fm (WorkPost t) (and-then ! (load ! (from ! (stop !)) (look ! 25 refl)) (and-then ! (load ! (from ! (stop !)) (look ! 21 refl)) (and-then ! (load ! (from ! (stop !)) (look ! 13 refl)) (and-then ! (load ! (from ! (stop !)) (look ! 23 refl)) (and-then ! (load ! (from ! (stop !)) (look ! 9 refl)) (no-more !)))))) (λ v₂. await ! tt $ pick ! (λ w. learn ! (λ did.
+        land ! (from ! (stop !)) (init ! 19 refl (did-typed t w v₂ did)) $ rewrite ! 19 (λ (z : Val). ‵ (fat fullShare Worked l₆ 0 z)) (did-value t w v₂ did) refl $
+        assigns ! (addr ! (from ! (fld ! refl (hop ! (look-in ! 29 (sub ! 0 refl (whole !))) (stop !))))) (from ! (stop !)) (init ! 5 refl (tt, tt)) $
+        assigns ! (agg ! (and-then ! (load ! (from ! (stop !)) (look ! 5 refl)) (and-then ! (load ! (from ! (fld ! refl (stop !))) (look-in ! 29 (sub ! 1 refl (whole !)))) (no-more !)))) (from ! (stop !)) (init ! 3 refl (tt, (tt, (record { fits = room .0 }, tt)))) $
+        move ! (2 ∷ 1 ∷ []) $ use2 W (raw (C #settle (s ∷ settled w ∷ []) (λ v₃. mean 𝓤 H A (SettlePost w v₃)))) (settle-met t w v₂ did) $
+        calls ! fm (SettlePost w) (and-then ! (load ! (from ! (stop !)) (look ! 2 refl)) (and-then ! (load ! (from ! (fld ! refl (stop !))) (look-in ! 18 (sub ! 0 refl (whole !)))) (no-more !))) (λ v₃. await ! tt $ pick ! (λ zs. learn ! (λ left.
+        land ! (from ! (stop !)) (init ! 6 refl (unit-typed v₃ (left .1))) $
+        assigns ! (of-opd ! (load ! (from ! (fld ! refl (stop !))) (look-in ! 18 (sub ! 1 refl (whole !))))) (from ! (stop !)) (init ! 30 refl (out-typed t w v₂ did)) $
+        returns ! (look ! 30 refl) $ forget ! 2 refl $ forget ! 4 refl $ forget ! 6 refl $ forget ! 8 refl $ forget ! 10 refl $ forget ! 12 refl $ forget ! 14 refl $ forget ! 16 refl $ forget ! 18 refl $ forget ! 20 refl $ forget ! 22 refl $ forget ! 24 refl $ forget ! 26 refl $ forget ! 28 refl $ forget ! 30 refl $
+        move ! (30 ∷ 31 ∷ []) $ free1 ! $ move ! (28 ∷ 29 ∷ []) $ free1 ! $ move ! (26 ∷ 27 ∷ []) $ free1 ! $ move ! (24 ∷ 25 ∷ []) $ free1 ! $ move ! (22 ∷ 23 ∷ []) $ free1 ! $ move ! (20 ∷ 21 ∷ []) $ free1 ! $ move ! (18 ∷ 19 ∷ []) $ free1 ! $ move ! (16 ∷ 17 ∷ []) $ free1 ! $ move ! (14 ∷ 15 ∷ []) $ free1 ! $ move ! (12 ∷ 13 ∷ []) $ free1 ! $ move ! (10 ∷ 11 ∷ []) $ free1 ! $ move ! (8 ∷ 9 ∷ []) $ free1 ! $ move ! (6 ∷ 7 ∷ []) $ free1 ! $ move ! (4 ∷ 5 ∷ []) $ free1 ! $ move ! (2 ∷ 3 ∷ []) $ free1 ! $ free0 ! $
+        split ! $ by ! (exits t v₁ got w v₂ did zs (left .0))))))))))))))))))))))))))))))

@@ -38,7 +38,7 @@ use Rattle.dock.specs.Works.{table}
 use Rattle.dock.proofs.Cited.{made}
 use Rattle.dock.proofs.Task as K
 use Rattle.dock.proofs.robust_dock.Symbol.{name as #dock}
-use Rattle.dock_limits.proofs.Arrays.{length-first, array-in, array-out}
+use Rattle.dock.proofs.Arrays.{length-first, array-in, array-out}
 use Rattle.dock_limits.proofs.lending.RobustLent as L
 use Rattle.dock_limits.proofs.lending.robust_lent.Code.Mir as lines
 
