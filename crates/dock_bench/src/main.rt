@@ -5,6 +5,7 @@ mod rounds;
 
 use call_lines::Line;
 use call_lines::read_line;
+use dock::Task;
 use dock::plain_work;
 use lending::plain_lent;
 use libc::STDOUT_FILENO;
@@ -13,74 +14,101 @@ use rounds::fresh_tally;
 use rounds::setup_task;
 use rounds::tallied;
 use rounds::turn_task;
+use thread_records::Record;
 use thread_records::empty_list;
 use thread_records::idle_record;
+ghost use Prim.Native.Nat.{_≤_};
 
-fn lent_turns(count: u64) -> Tally {
-    let mut slots = [0u32; 9];
-    let mut custody = [0u32; 8];
-    let mut table = [idle_record(empty_list()); 1];
-    let mut tally = fresh_tally();
-    let none = tally.set;
-    let ready = plain_lent(table, 1, &mut slots, &mut custody, none, setup_task());
-    let first = ready.outcome;
-    let fresh = first.set;
-    let first_report = first.report;
-    tally = tallied(tally, fresh, first_report);
-    let mut turn: u64 = 0;
-    while turn < count {
-        let index = tally.index;
-        let set = tally.set;
-        let lent = plain_lent(
-            table,
-            1,
-            &mut slots,
-            &mut custody,
-            set,
-            turn_task(turn, 0, index),
-        );
-        let outcome = lent.outcome;
-        let left = outcome.set;
-        let report = outcome.report;
-        table = lent.table;
-        tally = tallied(tally, left, report);
-        turn += 1;
+// No run has more turns than 2^40.
+fn bounded(count: u64) -> u64
+    ensures { λ r. ⌜ r ≤ 1099511627776 ⌝ }
+{
+    if count > 1_099_511_627_776 {
+        return 1_099_511_627_776;
     }
-    tally
+    count
 }
 
-fn value_turns(count: u64) -> Tally {
-    let mut slots = [0u32; 9];
-    let mut custody = [0u32; 8];
+struct Lent {
+    table: [Record; 1],
+    tally: Tally,
+}
+
+struct Moved {
+    thread: Record,
+    tally: Tally,
+}
+
+fn lent_task(
+    tally: Tally,
+    table: [Record; 1],
+    task: Task,
+    slots: &mut [u32],
+    custody: &mut [u32],
+) -> Lent {
+    let set = tally.set;
+    let lent = plain_lent(table, 1, slots, custody, set, task);
+    let outcome = lent.outcome;
+    let after = lent.table;
+    let left = outcome.set;
+    let report = outcome.report;
+    Lent {
+        table: after,
+        tally: tallied(tally, left, report),
+    }
+}
+
+fn value_task(
+    tally: Tally,
+    thread: Record,
+    task: Task,
+    slots: &mut [u32],
+    custody: &mut [u32],
+) -> Moved {
+    let set = tally.set;
+    let worked = plain_work(set, thread, 16, task, slots, custody);
+    let settled = worked.settled;
+    let outcome = worked.outcome;
+    let after = settled.thread;
+    let left = outcome.set;
+    let report = outcome.report;
+    Moved {
+        thread: after,
+        tally: tallied(tally, left, report),
+    }
+}
+
+fn lent_turns(count: u64, slots: &mut [u32], custody: &mut [u32]) -> Tally {
+    let most = bounded(count);
+    let table = [idle_record(empty_list()); 1];
+    let mut held = lent_task(fresh_tally(), table, setup_task(), slots, custody);
+    let mut turn: u64 = 0;
+    while turn < most {
+        let tally = held.tally;
+        let now = held.table;
+        let index = tally.index;
+        held = lent_task(tally, now, turn_task(turn, 0, index), slots, custody);
+        turn += 1;
+    }
+    held.tally
+}
+
+fn value_turns(count: u64, slots: &mut [u32], custody: &mut [u32]) -> Tally {
+    let most = bounded(count);
     let thread = idle_record(empty_list());
     let mut table = [thread; 16];
-    let mut tally = fresh_tally();
-    let none = tally.set;
-    let ready = plain_work(none, thread, 16, setup_task(), &mut slots, &mut custody);
-    let first = ready.outcome;
-    let fresh = first.set;
-    let first_report = first.report;
-    tally = tallied(tally, fresh, first_report);
+    let ready = value_task(fresh_tally(), thread, setup_task(), slots, custody);
+    let mut tally = ready.tally;
     let mut turn: u64 = 0;
-    while turn < count {
+    while turn < most {
         let who = turn / 9 % 16;
         let index = tally.index;
-        let set = tally.set;
         let named = table[who as usize];
-        let worked = plain_work(
-            set,
-            named,
-            16,
-            turn_task(turn, who as u8, index),
-            &mut slots,
-            &mut custody,
-        );
-        let settled = worked.settled;
-        let outcome = worked.outcome;
-        let left = outcome.set;
-        let report = outcome.report;
-        table[who as usize] = settled.thread;
-        tally = tallied(tally, left, report);
+        let task = turn_task(turn, who as u8, index);
+        let moved = value_task(tally, named, task, slots, custody);
+        let after = moved.thread;
+        table[who as usize] = after;
+        tally = moved.tally;
         turn += 1;
     }
     tally
@@ -96,10 +124,12 @@ fn tell(tally: Tally) {
 }
 
 fn turns_of(line: Line) -> Tally {
+    let mut slots = [0u32; 9];
+    let mut custody = [0u32; 8];
     if line.command == b'l' {
-        return lent_turns(line.numbers[0]);
+        return lent_turns(line.numbers[0], &mut slots, &mut custody);
     }
-    value_turns(line.numbers[0])
+    value_turns(line.numbers[0], &mut slots, &mut custody)
 }
 
 fn run(input: &[u8]) {

@@ -75,6 +75,13 @@ fn index_in(answer: Answer, index: Index) -> Index {
     }
 }
 
+fn one_more(count: u64) -> u64 {
+    if count < 0xffff_ffff_ffff_ffff {
+        return count + 1;
+    }
+    count
+}
+
 pub(crate) fn tallied(tally: Tally, set: UniqueIndexSet, report: Report) -> Tally {
     let progress = report.progress;
     let index = tally.index;
@@ -82,7 +89,7 @@ pub(crate) fn tallied(tally: Tally, set: UniqueIndexSet, report: Report) -> Tall
         Progress::Answered(answer) => Tally {
             set: set,
             index: index_in(answer, index),
-            answers: tally.answers + 1,
+            answers: one_more(tally.answers),
         },
         _ => Tally {
             set: set,

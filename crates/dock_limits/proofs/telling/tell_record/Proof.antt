@@ -2,11 +2,6 @@ use borrow.Author.Needs.{needs}
 use Prim.Native.Nat.{_-_}
 use Rattle.dock_limits.proofs.telling.tell_record.Statement.{statement}
 use Rattle.dock_limits.proofs.telling.tell_record.Tie as tie
-use Rattle.dock_limits.proofs.telling.tell_record.Reads as reads
-use Rattle.dock_limits.proofs.telling.tell_record.Lts as lts
-use Rattle.call_lines.proofs.record_numbers.Reads as record-numbers-reads
-use Rattle.dock_limits.proofs.telling.decimal.Reads as decimal-reads
-use Rattle.dock_limits.proofs.telling.text.Reads as text-reads
 
 abbrev Inv-loop : tie.InvT-loop
 Inv-loop who numbers i₀ t9 i = Unit {0}
@@ -14,71 +9,54 @@ Inv-loop who numbers i₀ t9 i = Unit {0}
 abbrev μ-loop : tie.MeasureT-loop
 μ-loop who numbers i₀ t9 i = 23 - i
 
--- src/telling.rt:139:14
 slice-aggregate-text : tie.Need-slice-aggregate-text Inv-loop μ-loop
 slice-aggregate-text c = search needs
 
--- src/telling.rt:139:9
 text-requires : tie.Need-text-requires Inv-loop μ-loop
 text-requires c κs = search needs
 
--- src/telling.rt:140:9
 returns : tie.Need-returns Inv-loop μ-loop
 returns c = search needs
 
--- src/telling.rt:142:18
 mul-thread : tie.Need-mul-thread Inv-loop μ-loop
 mul-thread c = search needs
 
--- src/telling.rt:142:18
 array-copy-out-thread : tie.Need-array-copy-out-thread Inv-loop μ-loop
 array-copy-out-thread c = search needs
 
--- src/telling.rt:143:19
 record-numbers-requires : tie.Need-record-numbers-requires Inv-loop μ-loop
 record-numbers-requires c κs = search needs
 
--- src/telling.rt:144:13
 slice-aggregate-decimal : tie.Need-slice-aggregate-decimal Inv-loop μ-loop
 slice-aggregate-decimal c = search needs
 
--- src/telling.rt:144:5
 decimal-requires : tie.Need-decimal-requires Inv-loop μ-loop
 decimal-requires c κs = search needs
 
--- src/telling.rt:146:5
 loop-holds : tie.Need-loop-holds Inv-loop μ-loop
 loop-holds c = search needs
 
--- src/telling.rt:147:17
 slice-aggregate-decimal-2 : tie.Need-slice-aggregate-decimal-2 Inv-loop μ-loop
 slice-aggregate-decimal-2 c = search needs
 
--- src/telling.rt:147:23
 mul-decimal : tie.Need-mul-decimal Inv-loop μ-loop
 mul-decimal c = search needs
 
--- src/telling.rt:147:23
 array-read-decimal : tie.Need-array-read-decimal Inv-loop μ-loop
 array-read-decimal c = search needs
 
--- src/telling.rt:147:9
 decimal-requires-2 : tie.Need-decimal-requires-2 Inv-loop μ-loop
 decimal-requires-2 c κs = search needs
 
--- src/telling.rt:148:9
 add-i : tie.Need-add-i Inv-loop μ-loop
 add-i c = search needs
 
--- src/telling.rt:146:5
 loop-less : tie.Need-loop-less Inv-loop μ-loop
 loop-less c = search needs
 
--- src/telling.rt:146:5
 loop-again : tie.Need-loop-again Inv-loop μ-loop
 loop-again c = search needs
 
--- src/telling.rt:136:1
 returns-2 : tie.Need-returns-2 Inv-loop μ-loop
 returns-2 c = search needs
 

@@ -2,11 +2,6 @@ use borrow.Author.Needs.{needs}
 use Prim.Native.Nat.{_-_}
 use Rattle.dock_limits.proofs.telling.tell_words.Statement.{statement}
 use Rattle.dock_limits.proofs.telling.tell_words.Tie as tie
-use Rattle.dock_limits.proofs.telling.tell_words.Reads as reads
-use Rattle.dock_limits.proofs.telling.tell_words.Lts as lts
-use Rattle.dock_limits.proofs.telling.decimal.Reads as decimal-reads
-use Rattle.dock_limits.proofs.telling.hex.Reads as hex-reads
-use Rattle.dock_limits.proofs.telling.text.Reads as text-reads
 
 abbrev Inv-loop : tie.InvT-loop
 Inv-loop slots custody i₀ t10 t11 t12 i = Unit {0}
@@ -20,95 +15,72 @@ Inv-loop2 custody i k₀ t12 k = Unit {0}
 abbrev μ-loop2 : tie.MeasureT-loop2
 μ-loop2 custody i k₀ t12 k = 8 - k
 
--- src/telling.rt:95:10
 slice-aggregate-text : tie.Need-slice-aggregate-text Inv-loop μ-loop Inv-loop2 μ-loop2
 slice-aggregate-text c = search needs
 
--- src/telling.rt:95:5
 text-requires : tie.Need-text-requires Inv-loop μ-loop Inv-loop2 μ-loop2
 text-requires c κs = search needs
 
--- src/telling.rt:97:5
 loop-holds : tie.Need-loop-holds Inv-loop μ-loop Inv-loop2 μ-loop2
 loop-holds c = search needs
 
--- src/telling.rt:98:20
 mul-slot : tie.Need-mul-slot Inv-loop μ-loop Inv-loop2 μ-loop2
 mul-slot c = search needs
 
--- src/telling.rt:98:20
 array-read-slot : tie.Need-array-read-slot Inv-loop μ-loop Inv-loop2 μ-loop2
 array-read-slot c = search needs
 
--- src/telling.rt:99:17
 slice-aggregate-decimal : tie.Need-slice-aggregate-decimal Inv-loop μ-loop Inv-loop2 μ-loop2
 slice-aggregate-decimal c = search needs
 
--- src/telling.rt:99:23
 cast-decimal : tie.Need-cast-decimal Inv-loop μ-loop Inv-loop2 μ-loop2
 cast-decimal c = search needs
 
--- src/telling.rt:99:9
 decimal-requires : tie.Need-decimal-requires Inv-loop μ-loop Inv-loop2 μ-loop2
 decimal-requires c κs = search needs
 
--- src/telling.rt:100:9
 add-i : tie.Need-add-i Inv-loop μ-loop Inv-loop2 μ-loop2
 add-i c = search needs
 
--- src/telling.rt:97:5
 loop-less : tie.Need-loop-less Inv-loop μ-loop Inv-loop2 μ-loop2
 loop-less c = search needs
 
--- src/telling.rt:97:5
 loop-again : tie.Need-loop-again Inv-loop μ-loop Inv-loop2 μ-loop2
 loop-again c = search needs
 
--- src/telling.rt:102:10
 slice-aggregate-text-2 : tie.Need-slice-aggregate-text-2 Inv-loop μ-loop Inv-loop2 μ-loop2
 slice-aggregate-text-2 c = search needs
 
--- src/telling.rt:102:5
 text-requires-2 : tie.Need-text-requires-2 Inv-loop μ-loop Inv-loop2 μ-loop2
 text-requires-2 c κs = search needs
 
--- src/telling.rt:104:5
 loop2-holds : tie.Need-loop2-holds Inv-loop μ-loop Inv-loop2 μ-loop2
 loop2-holds c = search needs
 
--- src/telling.rt:105:21
 mul-entry : tie.Need-mul-entry Inv-loop μ-loop Inv-loop2 μ-loop2
 mul-entry c = search needs
 
--- src/telling.rt:105:21
 array-read-entry : tie.Need-array-read-entry Inv-loop μ-loop Inv-loop2 μ-loop2
 array-read-entry c = search needs
 
--- src/telling.rt:106:13
 slice-aggregate-hex : tie.Need-slice-aggregate-hex Inv-loop μ-loop Inv-loop2 μ-loop2
 slice-aggregate-hex c = search needs
 
--- src/telling.rt:106:19
 cast-hex : tie.Need-cast-hex Inv-loop μ-loop Inv-loop2 μ-loop2
 cast-hex c = search needs
 
--- src/telling.rt:106:9
 hex-requires : tie.Need-hex-requires Inv-loop μ-loop Inv-loop2 μ-loop2
 hex-requires c κs = search needs
 
--- src/telling.rt:107:9
 add-k : tie.Need-add-k Inv-loop μ-loop Inv-loop2 μ-loop2
 add-k c = search needs
 
--- src/telling.rt:104:5
 loop2-less : tie.Need-loop2-less Inv-loop μ-loop Inv-loop2 μ-loop2
 loop2-less c = search needs
 
--- src/telling.rt:104:5
 loop2-again : tie.Need-loop2-again Inv-loop μ-loop Inv-loop2 μ-loop2
 loop2-again c = search needs
 
--- src/telling.rt:94:1
 returns : tie.Need-returns Inv-loop μ-loop Inv-loop2 μ-loop2
 returns c = search needs
 

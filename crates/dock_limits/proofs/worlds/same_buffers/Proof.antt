@@ -2,8 +2,6 @@ use borrow.Author.Needs.{needs}
 use Prim.Native.Nat.{_-_}
 use Rattle.dock_limits.proofs.worlds.same_buffers.Statement.{statement}
 use Rattle.dock_limits.proofs.worlds.same_buffers.Tie as tie
-use Rattle.dock_limits.proofs.worlds.same_buffers.Reads as reads
-use Rattle.dock_limits.proofs.worlds.same_buffers.Lts as lts
 
 abbrev Inv-loop : tie.InvT-loop
 Inv-loop a-slots b-slots a-custody b-custody a-cells b-cells i₀ i = Unit {0}
@@ -11,75 +9,57 @@ Inv-loop a-slots b-slots a-custody b-custody a-cells b-cells i₀ i = Unit {0}
 abbrev μ-loop : tie.MeasureT-loop
 μ-loop a-slots b-slots a-custody b-custody a-cells b-cells i₀ i = 8 - i
 
--- src/worlds.rt:225:5
 loop-holds : tie.Need-loop-holds Inv-loop μ-loop
 loop-holds c = search needs
 
--- src/worlds.rt:226:12
 mul-if1 : tie.Need-mul-if1 Inv-loop μ-loop
 mul-if1 c = search needs
 
--- src/worlds.rt:226:12
 array-read-if1 : tie.Need-array-read-if1 Inv-loop μ-loop
 array-read-if1 c = search needs
 
--- src/worlds.rt:226:26
 mul-if1-2 : tie.Need-mul-if1-2 Inv-loop μ-loop
 mul-if1-2 c = search needs
 
--- src/worlds.rt:226:26
 array-read-if1-2 : tie.Need-array-read-if1-2 Inv-loop μ-loop
 array-read-if1-2 c = search needs
 
--- src/worlds.rt:226:40
 mul-if2 : tie.Need-mul-if2 Inv-loop μ-loop
 mul-if2 c = search needs
 
--- src/worlds.rt:226:40
 array-read-if2 : tie.Need-array-read-if2 Inv-loop μ-loop
 array-read-if2 c = search needs
 
--- src/worlds.rt:226:56
 mul-if2-2 : tie.Need-mul-if2-2 Inv-loop μ-loop
 mul-if2-2 c = search needs
 
--- src/worlds.rt:226:56
 array-read-if2-2 : tie.Need-array-read-if2-2 Inv-loop μ-loop
 array-read-if2-2 c = search needs
 
--- src/worlds.rt:226:72
 mul-if3 : tie.Need-mul-if3 Inv-loop μ-loop
 mul-if3 c = search needs
 
--- src/worlds.rt:226:72
 array-read-if3 : tie.Need-array-read-if3 Inv-loop μ-loop
 array-read-if3 c = search needs
 
--- src/worlds.rt:226:86
 mul-if3-2 : tie.Need-mul-if3-2 Inv-loop μ-loop
 mul-if3-2 c = search needs
 
--- src/worlds.rt:226:86
 array-read-if3-2 : tie.Need-array-read-if3-2 Inv-loop μ-loop
 array-read-if3-2 c = search needs
 
--- src/worlds.rt:227:13
 returns : tie.Need-returns Inv-loop μ-loop
 returns c = search needs
 
--- src/worlds.rt:229:9
 add-i : tie.Need-add-i Inv-loop μ-loop
 add-i c = search needs
 
--- src/worlds.rt:225:5
 loop-less : tie.Need-loop-less Inv-loop μ-loop
 loop-less c = search needs
 
--- src/worlds.rt:225:5
 loop-again : tie.Need-loop-again Inv-loop μ-loop
 loop-again c = search needs
 
--- src/worlds.rt:217:1
 returns-2 : tie.Need-returns-2 Inv-loop μ-loop
 returns-2 c = search needs
 

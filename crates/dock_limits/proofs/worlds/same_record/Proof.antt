@@ -2,9 +2,6 @@ use borrow.Author.Needs.{needs}
 use Prim.Native.Nat.{_-_}
 use Rattle.dock_limits.proofs.worlds.same_record.Statement.{statement}
 use Rattle.dock_limits.proofs.worlds.same_record.Tie as tie
-use Rattle.dock_limits.proofs.worlds.same_record.Reads as reads
-use Rattle.dock_limits.proofs.worlds.same_record.Lts as lts
-use Rattle.call_lines.proofs.record_numbers.Reads as record-numbers-reads
 
 abbrev Inv-loop : tie.InvT-loop
 Inv-loop one other i₀ i = Unit {0}
@@ -12,51 +9,39 @@ Inv-loop one other i₀ i = Unit {0}
 abbrev μ-loop : tie.MeasureT-loop
 μ-loop one other i₀ i = 23 - i
 
--- src/worlds.rt:196:15
 record-numbers-requires : tie.Need-record-numbers-requires Inv-loop μ-loop
 record-numbers-requires c κs = search needs
 
--- src/worlds.rt:197:17
 record-numbers-requires-2 : tie.Need-record-numbers-requires-2 Inv-loop μ-loop
 record-numbers-requires-2 c κs = search needs
 
--- src/worlds.rt:199:5
 loop-holds : tie.Need-loop-holds Inv-loop μ-loop
 loop-holds c = search needs
 
--- src/worlds.rt:200:12
 mul-if1 : tie.Need-mul-if1 Inv-loop μ-loop
 mul-if1 c = search needs
 
--- src/worlds.rt:200:12
 array-read-if1 : tie.Need-array-read-if1 Inv-loop μ-loop
 array-read-if1 c = search needs
 
--- src/worlds.rt:200:22
 mul-if1-2 : tie.Need-mul-if1-2 Inv-loop μ-loop
 mul-if1-2 c = search needs
 
--- src/worlds.rt:200:22
 array-read-if1-2 : tie.Need-array-read-if1-2 Inv-loop μ-loop
 array-read-if1-2 c = search needs
 
--- src/worlds.rt:201:13
 returns : tie.Need-returns Inv-loop μ-loop
 returns c = search needs
 
--- src/worlds.rt:203:9
 add-i : tie.Need-add-i Inv-loop μ-loop
 add-i c = search needs
 
--- src/worlds.rt:199:5
 loop-less : tie.Need-loop-less Inv-loop μ-loop
 loop-less c = search needs
 
--- src/worlds.rt:199:5
 loop-again : tie.Need-loop-again Inv-loop μ-loop
 loop-again c = search needs
 
--- src/worlds.rt:195:1
 returns-2 : tie.Need-returns-2 Inv-loop μ-loop
 returns-2 c = search needs
 
