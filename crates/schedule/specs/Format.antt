@@ -1,0 +1,77 @@
+-- The format of a schedule: a 2-byte length of what follows, a 2-byte kind, the body. Which bytes are which entry.
+use Prim.Native.Nat.{ℕ, _+_, _*_}
+use mathlib.Core.Bool.{Bool, true, false, cond}
+use mathlib.Core.List as list
+use lib.ListN.{length, getD, take, drop}
+use lib.Dec.{eqb, ltb}
+use Rattle.unique_index_set_enums.specs.Kinds.{owner, recordNumber}
+use Rattle.schedule.specs.declared.Entry.{Entry}
+use Rattle.schedule.specs.declared.Entry.the-variants.{Setup, Start, Step, Death, List, Bad, Cut}
+use Rattle.schedule.specs.Numbers.{le2, le4, le8}
+
+-- the length that an entry of a kind says: 8, 17, 3, 3, or 4 + 8 times the owners; there is no other kind
+unfoldable pub rightLength : ℕ → ℕ → ℕ → Bool
+rightLength kind len count =
+    cond (eqb kind 1) (eqb len 8)
+    (cond (eqb kind 2) (eqb len 17)
+    (cond (eqb kind 3) (eqb len 3)
+    (cond (eqb kind 4) (eqb len 3)
+    (cond (eqb kind 5) (eqb len (4 + 8 * count)) false))))
+
+-- a list's count is the sixth byte
+unfoldable pub lacksCount : ℕ → ℕ → Bool
+lacksCount kind bytes = cond (eqb kind 5) (ltb bytes 6) false
+
+-- the entry of a kind, where all its bytes are there
+unfoldable pub bodyOf : list.List ℕ → ℕ → Entry
+bodyOf s kind =
+    cond (eqb kind 1) (Setup (record { set = getD s 4 0; records = getD s 5 0; capacity = le4 s 6 }))
+    (cond (eqb kind 2)
+    (Start (record {
+      who = recordNumber (getD s 4 0);
+      request = record { call = getD s 5 0; «index_or_room» = le4 s 6; owner = owner (le8 s 10); mode = getD s 18 0 };
+    }))
+    (cond (eqb kind 3) (Step (recordNumber (getD s 4 0)))
+    (cond (eqb kind 4) (Death (recordNumber (getD s 4 0)))
+    (List (record { who = recordNumber (getD s 4 0); count = getD s 5 0 })))))
+
+unfoldable pub wholeOf : list.List ℕ → ℕ → ℕ → Entry
+wholeOf s len kind = cond (ltb (length s) (2 + len)) Cut (bodyOf s kind)
+
+-- by its length and its kind
+unfoldable pub headedOf : list.List ℕ → ℕ → ℕ → Entry
+headedOf s len kind = cond (lacksCount kind (length s)) Cut (cond (rightLength kind len (getD s 5 0)) (wholeOf s len kind) Bad)
+
+-- the entry at the front
+unfoldable pub entryOf : list.List ℕ → Entry
+entryOf s = cond (ltb (length s) 4) Cut (headedOf s (le2 s 0) (le2 s 2))
+
+abbrev pub isWhole : Entry → Bool
+isWhole (Setup e) = true
+isWhole (Start e) = true
+isWhole (Step r) = true
+isWhole (Death r) = true
+isWhole (List e) = true
+isWhole Bad = false
+isWhole Cut = false
+
+-- how many bytes it has; all of them where there is no whole entry
+unfoldable pub sizeOf : list.List ℕ → ℕ
+sizeOf s = cond (isWhole (entryOf s)) (2 + le2 s 0) (length s)
+
+-- what stands behind it
+unfoldable pub restOf : list.List ℕ → list.List ℕ
+restOf s = drop (sizeOf s) s
+
+-- the owners of a list, in their bytes
+abbrev pub ownersEnd : Entry → ℕ
+ownersEnd (List e) = 6 + 8 * e .count
+ownersEnd (Setup e) = 6
+ownersEnd (Start e) = 6
+ownersEnd (Step r) = 6
+ownersEnd (Death r) = 6
+ownersEnd Bad = 6
+ownersEnd Cut = 6
+
+unfoldable pub ownersOf : list.List ℕ → list.List ℕ
+ownersOf s = take (ownersEnd (entryOf s)) s
