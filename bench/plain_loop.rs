@@ -1,5 +1,6 @@
 //! The same turns as `dock_bench` makes, as one would write them in Rust by hand: a table of records, one shared access a
-//! step, the same tests before it. No proof, no schedule, no reports: what a step costs at the least.
+//! step, the same tests before it (borrowed_indices, is_locked, deaths and drains are left out). No proof and no reports:
+//! what a turn costs at the least.
 #![no_std]
 #![crate_type = "lib"]
 
@@ -18,9 +19,9 @@ enum Place {
     Read(u64),
     Exchange(u64, u32),
     Write(u32),
-    ReleaseLook(u32),
-    ReleaseWrite(u32, u64),
-    ReleaseExchange(u32, u64),
+    ReleaseLook(u32, u8),
+    ReleaseWrite(u32, u8, u64),
+    ReleaseExchange(u32, u8, u64),
 }
 
 #[derive(Clone, Copy)]
@@ -43,8 +44,8 @@ struct Dock<'a> {
 
 #[derive(Clone, Copy)]
 enum Turn {
-    Acquire,
-    Release(u32),
+    /// call, index, mode
+    Start(u8, u32, u8),
     Step,
 }
 
@@ -121,15 +122,29 @@ impl Dock<'_> {
         Came::Accepted
     }
 
-    fn release_looks(&mut self, who: usize, index: u32) -> Came {
+    fn release_looks(&mut self, who: usize, index: u32, mode: u8) -> Came {
         let word = self.set.head;
         if borrowed(word) == 0 || borrowed(word) == LOCKED {
             put(self.custody, index, held(who));
             self.goes(who, Place::Idle);
             return Came::Answered(14);
         }
-        self.goes(who, Place::ReleaseWrite(index, word));
+        self.goes(who, Place::ReleaseWrite(index, mode, word));
         Came::Accepted
+    }
+
+    /// 11: what the place remembers and can still be read.
+    fn sound(&self, place: Place) -> bool {
+        let capacity = self.set.capacity;
+        match place {
+            Place::Idle | Place::Look => true,
+            Place::Read(seen) | Place::Exchange(seen, _) => first(seen) < capacity && borrowed(seen) != LOCKED,
+            Place::Write(index) => index < capacity,
+            Place::ReleaseLook(index, mode) => index < capacity && mode <= 1,
+            Place::ReleaseWrite(index, mode, seen) | Place::ReleaseExchange(index, mode, seen) => {
+                index < capacity && mode <= 1 && borrowed(seen) != 0 && borrowed(seen) != LOCKED
+            }
+        }
     }
 
     fn step(&mut self, who: usize) -> Came {
@@ -137,13 +152,18 @@ impl Dock<'_> {
         if why != 0 {
             return Came::Refused(why);
         }
-        match self.place(who) {
+        let place = self.place(who);
+        if matches!(place, Place::Idle) {
+            return Came::Refused(9);
+        }
+        if !self.sound(place) {
+            return Came::Refused(11);
+        }
+        match place {
             Place::Idle => return Came::Refused(9),
             Place::Look => return self.acquire_looks(who),
             Place::Read(seen) => {
-                let Some(value) = self.slots.get(first(seen) as usize).copied() else {
-                    return Came::Refused(11);
-                };
+                let value = self.slots.get(first(seen) as usize).copied().unwrap_or(0);
                 self.goes(who, Place::Exchange(seen, value));
             }
             Place::Exchange(seen, value) => {
@@ -151,43 +171,27 @@ impl Dock<'_> {
                     return self.acquire_looks(who);
                 }
                 let index = first(seen);
-                if index as usize >= self.custody.len() {
-                    return Came::Refused(11);
-                }
                 self.set.head = packed(value, (seen >> 24) + 1, borrowed(seen) + 1);
                 put(self.custody, index, 1 | (who as u32) << 8);
                 self.goes(who, Place::Write(index));
             }
             Place::Write(index) => {
-                if index >= self.set.capacity {
-                    return Came::Refused(11);
-                }
                 put(self.slots, index, self.set.capacity + 1);
                 put(self.custody, index, held(who));
                 self.goes(who, Place::Idle);
                 return Came::Answered(0);
             }
-            Place::ReleaseLook(index) => {
-                if index >= self.set.capacity {
-                    return Came::Refused(11);
-                }
-                return self.release_looks(who, index);
-            }
-            Place::ReleaseWrite(index, seen) => {
-                if index >= self.set.capacity {
-                    return Came::Refused(11);
-                }
+            Place::ReleaseLook(index, mode) => return self.release_looks(who, index, mode),
+            Place::ReleaseWrite(index, mode, seen) => {
                 put(self.slots, index, first(seen));
-                self.goes(who, Place::ReleaseExchange(index, seen));
+                self.goes(who, Place::ReleaseExchange(index, mode, seen));
             }
-            Place::ReleaseExchange(index, seen) => {
-                if index >= self.set.capacity {
-                    return Came::Refused(11);
-                }
+            Place::ReleaseExchange(index, mode, seen) => {
                 if self.set.head != seen {
-                    return self.release_looks(who, index);
+                    return self.release_looks(who, index, mode);
                 }
-                self.set.head = packed(index, (seen >> 24) + 1, borrowed(seen) - 1);
+                let left = if mode == 1 && borrowed(seen) == 1 { LOCKED } else { borrowed(seen) - 1 };
+                self.set.head = packed(index, (seen >> 24) + 1, left);
                 put(self.custody, index, 0);
                 self.goes(who, Place::Idle);
                 return Came::Answered(0);
@@ -196,7 +200,7 @@ impl Dock<'_> {
         Came::Accepted
     }
 
-    fn start(&mut self, who: usize, release: Option<u32>) -> Came {
+    fn start(&mut self, who: usize, call: u8, index: u32, mode: u8) -> Came {
         let why = self.unfit(who);
         if why != 0 {
             return Came::Refused(why);
@@ -204,9 +208,12 @@ impl Dock<'_> {
         if !matches!(self.place(who), Place::Idle) {
             return Came::Refused(9);
         }
-        match release {
-            None => self.goes(who, Place::Look),
-            Some(index) => {
+        match call {
+            1 => self.goes(who, Place::Look),
+            2 => {
+                if mode > 1 {
+                    return Came::Refused(13);
+                }
                 if index >= self.set.capacity {
                     return Came::Refused(7);
                 }
@@ -214,8 +221,9 @@ impl Dock<'_> {
                     return Came::Refused(8);
                 }
                 put(self.custody, index, 3 | (who as u32) << 8 | (who as u32) << 16);
-                self.goes(who, Place::ReleaseLook(index));
+                self.goes(who, Place::ReleaseLook(index, mode));
             }
+            _ => return Came::Refused(13),
         }
         Came::Accepted
     }
@@ -223,8 +231,7 @@ impl Dock<'_> {
     #[inline(never)]
     fn turn(&mut self, who: usize, turn: Turn) -> Came {
         match turn {
-            Turn::Acquire => self.start(who, None),
-            Turn::Release(index) => self.start(who, Some(index)),
+            Turn::Start(call, index, mode) => self.start(who, call, index, mode),
             Turn::Step => self.step(who),
         }
     }
@@ -246,8 +253,8 @@ pub extern "C" fn plain_loop(count: u64, among: u64, answers: &mut u64) -> u64 {
         let who = (turn / 9 % among) as usize;
         // what is acquired is the first free index, which is 0 at each round's beginning
         let made = match turn % 9 {
-            0 => Turn::Acquire,
-            5 => Turn::Release(0),
+            0 => Turn::Start(1, 0, 0),
+            5 => Turn::Start(2, 0, 0),
             _ => Turn::Step,
         };
         match dock.turn(who, made) {

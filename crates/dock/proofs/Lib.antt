@@ -2,7 +2,7 @@ pub mod Slices
 pub mod Shown
 pub mod Cited
 pub mod Size
-pub mod Filled
+pub mod Overwritten
 pub mod Callees
 pub mod Arrays
 pub mod Works

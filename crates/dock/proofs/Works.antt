@@ -1,10 +1,11 @@
--- Work for a whole table is the work for the record that is read, with what it leaves of the records settled. A refused work changes nothing;
+-- Work for a whole table is the work for the record that is read, with what it leaves of the records settled. Refused work changes nothing;
 -- any two results that the contracts allow are the same. Assumes nothing.
-use Prim.Native.Nat.{ℕ}
-use mathlib.Core.Path.{_≡_, refl, ap, _∙_}
+use Prim.Native.Nat.{ℕ, zero, suc, _<_}
+use native.Mathlib.Nat.{not-suc-le-zero, le-of-suc-le-suc}
+use mathlib.Core.Path.{_≡_, refl, sym, ap, _∙_}
 use mathlib.Core.Bool.{true}
-use mathlib.Core.List.{List, [], _∷_, map}
-use lib.ListN.{length, getD, set, replicate}
+use mathlib.Core.List.{List, [], _∷_, _++_, map}
+use lib.ListN.{length, getD, set, take, drop, take-append-drop, replicate}
 use lib.Seq.{set-getD}
 use Rattle.calls.specs.declared.Refusal.{Refusal}
 use Rattle.calls.specs.declared.Progress.the-variants as progress
@@ -26,7 +27,7 @@ use Rattle.turns.specs.Plain.{plainTurnOf}
 use Rattle.turns.specs.Robust.{robustTurnOf}
 use Rattle.turns.specs.Docks.{Table, Turned, setupIn, Dock, turn, setUp}
 use Rattle.turns.specs.Docks.Dock.{plainDock, robustDock}
-use Rattle.turns.proofs.Tables.{there}
+use Rattle.turns.proofs.Tables.{same-map, there}
 use Rattle.turns.proofs.Laws.{turn-harmless, setup-harmless}
 use Rattle.dock.specs.declared.Work.{Work}
 use Rattle.dock.specs.declared.Work.the-variants.{Setup, Turn}
@@ -41,10 +42,6 @@ use Rattle.dock.specs.Docks.{workIn}
 abbrev pub readAt : Work → List Record → Record
 readAt w records = getD records (placeOf w) (idleRecord emptyList)
 
-same-map : (records : List Record) → records ≡ map (λ t. t) records
-same-map [] = refl
-same-map (t ∷ records) = ap (λ (l : List Record). t ∷ l) (same-map records)
-
 every : (t : Record) (records : List Record) → replicate (length records) t ≡ map (λ u. t) records
 every t [] = refl
 every t (u ∷ records) = ap (λ (l : List Record). t ∷ l) (every t records)
@@ -52,7 +49,7 @@ every t (u ∷ records) = ap (λ (l : List Record). t ∷ l) (every t records)
 -- a setup: refused, the record that is read is put back as it was; accepted, each is as it leaves one
 setup-works : {S : Type 0} (v : Verdict) (e : Effect S) (s : S) (records : List Record) → isAccepted (e .report .progress) ≡ true
     → workedTable (setupWorked (judged v s (getD records 0 (idleRecord emptyList)) e)) records ≡ setupIn (λ n s′ t. judged v s′ t e) (table s records)
-setup-works (Refused why) e s records a = ap (λ (l : List Record). record { left = table s l; report = refusedReport why; steps = 0 }) (set-getD records 0 (idleRecord emptyList) ∙ same-map records)
+setup-works (Refused why) e s records a = ap (λ (l : List Record). record { left = table s l; report = refusedReport why; steps = 0 }) (set-getD records 0 (idleRecord emptyList) ∙ sym (same-map (λ t. t) (λ t. refl) records))
 setup-works Accepted e s records a = ap (λ (l : List Record). record { left = table (e .shared) l; report = e .report; steps = 0 }) (rw a (every (e .thread) records))
 
 plain-works : (w : Work) (brought : OwnerList) (s : plain.Shared) (records : List Record)
@@ -83,6 +80,20 @@ module _ (w : Work) (brought : OwnerList) (records left : List Record) (t : Reco
       ∙ ap (λ (u : Worked robust.Shared). workedTable u records) (e ∙ ap (robustWorkOf (length records) w brought s) read)
       ∙ robust-works w brought s records
 
+-- whoever keeps a longer table by value and lends the first n of it: below n a record is read and stored in the whole table as in the part,
+-- and an accepted setup writes the first n
+pub lent-read : (n i : ℕ) (held : List Record) (d : Record) → i < n → getD (take n held) i d ≡ getD held i d
+lent-read zero i held d l = absurd (not-suc-le-zero l)
+lent-read (suc n) i [] d l = refl
+lent-read (suc n) zero (t ∷ held) d l = refl
+lent-read (suc n) (suc i) (t ∷ held) d l = lent-read n i held d (le-of-suc-le-suc l)
+
+pub lent-stored : (n i : ℕ) (held : List Record) (t : Record) → i < n → set (take n held) i t ++ drop n held ≡ set held i t
+lent-stored zero i held t l = absurd (not-suc-le-zero l)
+lent-stored (suc n) i [] t l = refl
+lent-stored (suc n) zero (u ∷ held) t l = ap (λ (z : List Record). t ∷ z) (take-append-drop n held)
+lent-stored (suc n) (suc i) (u ∷ held) t l = ap (λ (z : List Record). u ∷ z) (lent-stored n i held t (le-of-suc-le-suc l))
+
 -- work is a setup of the dock, or a turn of one record
 pub work-setup : (capacity : ℕ) (brought : OwnerList) (d : Dock) → workIn (Setup capacity) brought d ≡ setUp capacity d
 work-setup capacity brought (plainDock d) = refl
@@ -92,7 +103,7 @@ pub work-turn : (w : _) (brought : OwnerList) (d : Dock) → workIn (Turn w) bro
 work-turn w brought (plainDock d) = refl
 work-turn w brought (robustDock d) = refl
 
--- a refused work changes nothing
+-- refused work changes nothing
 pub work-harmless : (w : Work) (brought : OwnerList) (d : Dock) (why : Refusal) → workIn w brought d .report .progress ≡ progress.Refused why → workIn w brought d .left ≡ d
 work-harmless (Setup capacity) brought (plainDock d) why p = setup-harmless capacity (plainDock d) why p
 work-harmless (Setup capacity) brought (robustDock d) why p = setup-harmless capacity (robustDock d) why p

@@ -1,5 +1,4 @@
--- Work for a dock, whatever its set: for the one record that is read it is said what it leaves of the records and of what they share;
--- for the whole table it is a setup or a turn.
+-- Work for a dock, whatever its set: what it leaves of what the records share, and how it settles the records, said for the one that is read.
 use Prim.Native.Nat.{ℕ}
 use mathlib.Core.Bool.{Bool, true, false, cond}
 use mathlib.Core.List.{List}
@@ -16,7 +15,7 @@ use Rattle.dock.specs.declared.Work.{Work}
 use Rattle.dock.specs.declared.Work.the-variants.{Setup, Turn}
 use Rattle.dock.specs.declared.tables.Settled.{Settled}
 
--- where the record stands that is read; a setup reads none
+-- where the record stands that is read; a setup, which settles them all, has the first
 abbrev pub placeOf : Work → ℕ
 placeOf (Setup capacity) = 0
 placeOf (Turn t) = t .who .0
@@ -30,7 +29,7 @@ isAccepted (Refused why) = false
 abbrev pub settledIn : Settled → List Record → List Record
 settledIn s records = cond (s .everywhere) (replicate (length records) (s .thread)) (set records (s .place) (s .thread))
 
--- all that work leaves, but for the records that it does not read
+-- all that work leaves, the records told by how they are settled
 pub record Worked (S : Type 0) : Type 0 where
   pub settled : Settled
   pub shared : S

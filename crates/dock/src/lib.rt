@@ -36,7 +36,7 @@ pub struct Task {
     pub brought: OwnerList,
 }
 
-// Where the record stands that is read: for a setup the first, since it reads none.
+// Where the record stands that is read; a setup, which settles them all, has the first.
 pub(crate) fn place_of(task: Task) -> usize
     ensures { λ r. ⌜ r ≡ placeOf (task .work) ⌝ }
 {

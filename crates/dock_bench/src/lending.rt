@@ -1,4 +1,4 @@
-// A table of one record, lent to a plain dock. It lends a local array of records and is proved by a walk.
+// A table of one record or none, lent to a plain dock. It lends a local array of records and is proved by a walk.
 use dock::Task;
 use dock::plain_dock;
 use thread_records::Record;

@@ -1,5 +1,5 @@
 -- The format of a schedule: a 2-byte length of what follows, a 2-byte kind, the body. Which bytes are which entry.
-use Prim.Native.Nat.{ℕ, _+_, _*_}
+use Prim.Native.Nat.{ℕ, _+_, _*_, _-_}
 use mathlib.Core.Bool.{Bool, true, false, cond}
 use mathlib.Core.List as list
 use lib.ListN.{length, getD, take, drop}
@@ -63,15 +63,18 @@ sizeOf s = cond (isWhole (entryOf s)) (2 + le2 s 0) (length s)
 unfoldable pub restOf : list.List ℕ → list.List ℕ
 restOf s = drop (sizeOf s) s
 
--- the owners of a list, in their bytes
-abbrev pub ownersEnd : Entry → ℕ
-ownersEnd (List e) = 6 + 8 * e .count
-ownersEnd (Setup e) = 6
-ownersEnd (Start e) = 6
-ownersEnd (Step r) = 6
-ownersEnd (Death r) = 6
-ownersEnd Bad = 6
-ownersEnd Cut = 6
+abbrev pub isList : Entry → Bool
+isList (Setup e) = false
+isList (Start e) = false
+isList (Step r) = false
+isList (Death r) = false
+isList (List e) = true
+isList Bad = false
+isList Cut = false
+
+-- where the owners of a list end, which begin at the seventh byte; 0 of any other entry
+unfoldable pub ownersEnd : list.List ℕ → ℕ
+ownersEnd s = cond (isList (entryOf s)) (6 + 8 * getD s 5 0) 0
 
 unfoldable pub ownersOf : list.List ℕ → list.List ℕ
-ownersOf s = take (ownersEnd (entryOf s)) s
+ownersOf s = take (ownersEnd s - 6) (drop 6 s)

@@ -11,7 +11,7 @@ use unique_index_set_enums::RecordNumber;
 ghost use mathlib.Core.Path.{_≡_};
 ghost use Prim.Native.Nat.{_≤_, _<_};
 ghost use lib.ListN.{length};
-ghost use Rattle.schedule.specs.Format.{rightLength, lacksCount, bodyOf, wholeOf, headedOf, entryOf, isWhole, sizeOf, restOf, ownersEnd, ownersOf};
+ghost use Rattle.schedule.specs.Format.{rightLength, lacksCount, bodyOf, wholeOf, headedOf, entryOf, isWhole, isList, sizeOf, restOf, ownersEnd, ownersOf};
 
 // The bytes of a setup, which is the first entry of a schedule: any set, any number of records, any capacity.
 pub struct SetupEntry {
@@ -142,4 +142,59 @@ fn is_whole(entry: Entry) -> bool
         Entry::Bad => false,
         Entry::Cut => false,
     }
+}
+
+fn is_list(entry: Entry) -> bool
+    ensures { λ r. ⌜ r ≡ isList entry ⌝ }
+{
+    match entry {
+        Entry::Setup(_) => false,
+        Entry::Start(_) => false,
+        Entry::Step(_) => false,
+        Entry::Death(_) => false,
+        Entry::List(_) => true,
+        Entry::Bad => false,
+        Entry::Cut => false,
+    }
+}
+
+// How many bytes the entry at the front has; all of them where there is no whole entry.
+pub fn entry_size(bytes: &[u8]) -> usize
+    ensures { λ r. ⌜ (r ≡ sizeOf (now (bytes .entry))) × (r ≤ length (now (bytes .entry))) ⌝ }
+{
+    let entry = read_entry(bytes);
+    if is_whole(entry) {
+        return 2 + (number2(bytes, 0) as usize);
+    }
+    bytes.len()
+}
+
+// What stands behind the entry at the front.
+pub fn rest(bytes: &[u8]) -> &[u8]
+    ensures { λ r. ⌜ now r ≡ restOf (now (bytes .entry)) ⌝ }
+{
+    let size = entry_size(bytes);
+    &bytes[size..]
+}
+
+fn owners_end(bytes: &[u8]) -> usize
+    ensures { λ r. ⌜ (r ≡ ownersEnd (now (bytes .entry))) × (6 ≤ r → r ≤ length (now (bytes .entry))) ⌝ }
+{
+    let entry = read_entry(bytes);
+    if is_list(entry) {
+        let count = byte_at(bytes, 5);
+        return 6 + 8 * (count as usize);
+    }
+    0
+}
+
+// The owners of a list, in their bytes; of any other entry, none.
+pub fn owners(bytes: &[u8]) -> &[u8]
+    ensures { λ r. ⌜ now r ≡ ownersOf (now (bytes .entry)) ⌝ }
+{
+    let end = owners_end(bytes);
+    if end < 6 {
+        return &bytes[0..0];
+    }
+    &bytes[6..end]
 }

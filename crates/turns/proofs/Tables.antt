@@ -19,7 +19,7 @@ use Rattle.thread_records.specs.Effects.{Effect, judged}
 use Rattle.thread_records.proofs.Effects.{Harmless, taken}
 use Rattle.turns.specs.Docks.{Table, Turned, elsewhere, settled, named, turnedTable, turnIn, setupIn}
 
-same-map : (f : Record → Record) → ((t : Record) → f t ≡ t) → (records : List Record) → map f records ≡ records
+pub same-map : (f : Record → Record) → ((t : Record) → f t ≡ t) → (records : List Record) → map f records ≡ records
 same-map f e [] = refl
 same-map f e (t ∷ records) = rw (e t) (ap (λ (l : List Record). t ∷ l) (same-map f e records))
 

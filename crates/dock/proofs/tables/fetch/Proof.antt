@@ -3,7 +3,6 @@
 -- Nothing here looks into a record: `T` and `T′` are its type and its laws. Assumes nothing.
 use mathlib.Core.Path.{_≡_, refl, sym, _∙_}
 use Prim.Native.Nat.{ℕ, _<_, _*_, _^_}
-use native.Mathlib.Omega.{arith}
 use mathlib.Core.Bool.{not}
 use mathlib.Core.List.{[], _∷_, List}
 use lib.ListN.{length, getD, List·getD-eq-default}
@@ -47,7 +46,7 @@ use Rattle.thread_records.specs.Records.{emptyList, idleRecord}
 use Rattle.thread_records.proofs.Record as T
 use Rattle.thread_records.proofs.Record.Laws as T′
 use Rattle.dock.proofs.Slices.{ifs}
-use Rattle.dock.proofs.Size.{record-size}
+use Rattle.dock.proofs.Size.{record-size, far}
 use Rattle.dock.proofs.tables.absent as absent
 use Rattle.dock.proofs.tables.absent.Symbol as absent-def
 use Rattle.dock.proofs.tables.absent.Symbol.{name as #dock·tables·absent}
@@ -115,9 +114,6 @@ module _ {M : Type 1} (𝓤 : URA M) (H : Heap 𝓤) (A : Atoms 𝓤) (W : Given
   within : Holds (not (leb (length ts) i)) → i < length ts
   within some-one = nleb→lt (length ts) i some-one
 
-  far : i < length ts → i * record-size < 2 ^ 64
-  far l = omega (arith, room .1, l)
-
   module _ (C : Calls 𝓤 H) (Λ : Loops 𝓤 H) (fm : FmC 𝓤 H (W .laws) C) (known : Triple 𝓤 (C #dock·tables·absent) (Absent 𝓤 H A mem run)) where
     walk : ent 𝓤 (onEntry 𝓤 H A fetch′.signature (κ, tt) (q, tt) a vals) (WpFn 𝓤 H C Λ code.function (s ∷ vint w64 i ∷ []) Post)
     walk =
@@ -138,7 +134,7 @@ module _ {M : Type 1} (𝓤 : URA M) (H : Heap 𝓤) (A : Atoms 𝓤) (W : Given
         returns-within ! Post refl (look ! 14 refl) $ forget ! 6 refl $ forget ! 8 refl $ forget ! 10 refl $ forget ! 12 refl $ forget ! 14 refl $
         move ! (14 ∷ 15 ∷ []) $ free1 ! $ move ! (12 ∷ 13 ∷ []) $ free1 ! $ move ! (10 ∷ 11 ∷ []) $ free1 ! $ move ! (8 ∷ 9 ∷ []) $ free1 ! $ move ! (6 ∷ 7 ∷ []) $ free1 ! $ move ! (4 ∷ 5 ∷ []) $ free1 ! $ move ! (2 ∷ 3 ∷ []) $ free1 ! $ free0 ! $
         by ! (exits t v (e ∙ sym (List·getD-eq-default ts (idleRecord emptyList) (leb→le (length ts) i none))) is))))))
-        (λ some-one. assigns ! (bin ! (load ! (from ! (stop !)) (look ! 10 refl)) (lit ! tt) (record { fits = far (within some-one) })) (from ! (stop !)) (store ! 8 refl (tt, record { fits = far (within some-one) })) $
+        (λ some-one. assigns ! (bin ! (load ! (from ! (stop !)) (look ! 10 refl)) (lit ! tt) (record { fits = far (length ts) i room (within some-one) })) (from ! (stop !)) (store ! 8 refl (tt, record { fits = far (length ts) i room (within some-one) })) $
         assigns ! (bin ! (load ! (from ! (fld ! refl (stop !))) (look-in ! 12 (sub ! 0 refl (whole !)))) (load ! (from ! (stop !)) (look ! 8 refl)) tt) (from ! (stop !)) (init ! 4 refl (tt, tt)) $
         rewrite ! 4 (λ (p : ℕ). ‵ (fat fullShare tyPtr l₅ 0 (vptr b p))) (sym (place-is record-size o i)) refl $
         fsplit ! $ move ! (1 ∷ []) $ fsplit ! $ move ! (1 ∷ 3 ∷ []) $

@@ -1,11 +1,10 @@
--- `dock::tables::fill` meets its contract: a walk of its MIR, by hand. The borrow is opened once, before the loop, and closed once, after it. In between the row is `filled t ys i`: the first i records are `t`, and the rest are as they were.
+-- `dock::tables::fill` meets its contract: a walk of its MIR, by hand. The borrow is opened once, before the loop, and closed once, after it. In between the row is `overwritten t ys i`: the first i records are `t`, and the rest are as they were.
 -- The loop's variant is i with i ≤ n, ordered by what is left.
 -- Assumes nothing.
 use mathlib.Core.Path.{_≡_, refl, sym, _∙_, ap, subst}
 use Prim.Native.Nat.{ℕ, _+_, _-_, _≤_, _<_, _*_, _^_, zero-le}
 use native.Mathlib.Nat.{le-antisymm, lt-of-le-of-lt}
 use native.Mathlib.Numerals.{add-one-le, add-one-dec}
-use native.Mathlib.Omega.{arith}
 use mathlib.Core.WellFounded.{WellFounded, InvImage·wf}
 use mathlib.Core.List.{[], _∷_, List}
 use lib.ListN.{length}
@@ -45,9 +44,9 @@ use denote.Triple.Walked.{says, Stays, stay-slice, stay-none, walkOf, goes-slice
 use denote.Exit.{yes}
 use Rattle.thread_records.specs.declared.Record.{Record}
 use Rattle.thread_records.specs.Records.{emptyList, idleRecord}
-use Rattle.dock.proofs.Filled.{filled, length-filled, filled-next, filled-all}
+use Rattle.dock.proofs.Overwritten.{overwritten, length-overwritten, overwritten-next, overwritten-all}
 use Rattle.dock.proofs.Slices.{whiles}
-use Rattle.dock.proofs.Size.{record-size}
+use Rattle.dock.proofs.Size.{record-size, far as place-far}
 use Rattle.thread_records.proofs.Record as T
 use Rattle.thread_records.proofs.Record.Laws as T′
 use Rattle.dock.proofs.tables.fill.Key.{name as #dock·tables·fill}
@@ -94,13 +93,13 @@ module _ {M : Type 1} (𝓤 : URA M) (H : Heap 𝓤) (A : Atoms 𝓤) (W : Given
   abbrev Post : Val → SProp 𝓤
   Post = walkOf 𝓤 H A fill′.ended stayed (fill′.clauses 𝓤 H A mem run) .post (((κ, tt), (q, tt), tt, a, vals), tt)
 
-  exits : (i : ℕ) → i ≡ n → ent 𝓤 (⋆ 𝓤 H A (‵ (fobs γ (codedHoleys T.the-row .code (heres T.the-row (filled t ys i)))) ∷ ‵ (fbor κ (Held T.the-row (length (filled t ys i)) b o γ)) ∷ ‵ (flft κ q) ∷ [])) (Post vunit)
+  exits : (i : ℕ) → i ≡ n → ent 𝓤 (⋆ 𝓤 H A (‵ (fobs γ (codedHoleys T.the-row .code (heres T.the-row (overwritten t ys i)))) ∷ ‵ (fbor κ (Held T.the-row (length (overwritten t ys i)) b o γ)) ∷ ‵ (flft κ q) ∷ [])) (Post vunit)
   exits i e =
-      qed W (‵ (fobs γ (codedHoleys T.the-row .code (heres T.the-row (filled t ys i)))) ∷ ‵ (fbor κ (Held T.the-row (length (filled t ys i)) b o γ)) ∷ ‵ (flft κ q) ∷ []) ∵
-      suffices ! _ (ends-at 𝓤 H A fill′.ended stayed (fill′.clauses 𝓤 H A mem run) W (((κ, tt), (q, tt), tt, a, vals), tt) vunit tt (filled t ys i, (tt, tt)) (length-filled t ys i, (tt, tt))) $ says ! (ap (filled t ys) e ∙ filled-all t ys) $
+      qed W (‵ (fobs γ (codedHoleys T.the-row .code (heres T.the-row (overwritten t ys i)))) ∷ ‵ (fbor κ (Held T.the-row (length (overwritten t ys i)) b o γ)) ∷ ‵ (flft κ q) ∷ []) ∵
+      suffices ! _ (ends-at 𝓤 H A fill′.ended stayed (fill′.clauses 𝓤 H A mem run) W (((κ, tt), (q, tt), tt, a, vals), tt) vunit tt (overwritten t ys i, (tt, tt)) (length-overwritten t ys i, (tt, tt))) $ says ! (ap (overwritten t ys) e ∙ overwritten-all t ys) $
       nothing ! $ move ! (3 ∷ 0 ∷ []) $ join ! $ frame ! $
       -- [obs; the borrow]: with the fact on the machine value it is what the slice owns
-      fjoin ! $ pureI ! (at-slice T.the-row (x (filled t ys i)) (s ∷ [])) (tt, (tt, tt)) (ap (λ (m : ℕ). sliceVal (b, o) m ∷ []) (sym (length-filled t ys i)), subst (Room T.the-row) (sym (length-filled t ys i)) room) $ fjoin ! $
+      fjoin ! $ pureI ! (at-slice T.the-row (x (overwritten t ys i)) (s ∷ [])) (tt, (tt, tt)) (ap (λ (m : ℕ). sliceVal (b, o) m ∷ []) (sym (length-overwritten t ys i)), subst (Room T.the-row) (sym (length-overwritten t ys i)) room) $ fjoin ! $
       nothing ! $ owned ! T.the-row (Is T.the-row) (LL.makes T.the-type T′.the-plain 𝓤 H A) t _ is $ fjoin ! $ move ! (1 ∷ 0 ∷ []) $ fjoin ! $ feqI ! (List Val) (vunit ∷ []) (vunit ∷ []) refl $ move ! (1 ∷ 0 ∷ []) $ done !
 
   -- the loop's variant, ordered by what is left
@@ -125,7 +124,7 @@ module _ {M : Type 1} (𝓤 : URA M) (H : Heap 𝓤) (A : Atoms 𝓤) (W : Given
 
     -- the loop's invariant: the row, the open borrow with obs and auth, and the locals
     abbrev At : Upto → List (Item 𝓤)
-    At i = ‵ (row T.the-row fullShare (filled t ys (i .0)) b o) ∷ ‵ (fobor κ q (Held T.the-row n b o γ)) ∷ ‵ (fobs γ (codedHoleys T.the-row .code (heres T.the-row ys))) ∷ ‵ (fauth γ (codedHoleys T.the-row .code (heres T.the-row ys)))
+    At i = ‵ (row T.the-row fullShare (overwritten t ys (i .0)) b o) ∷ ‵ (fobor κ q (Held T.the-row n b o γ)) ∷ ‵ (fobs γ (codedHoleys T.the-row .code (heres T.the-row ys))) ∷ ‵ (fauth γ (codedHoleys T.the-row .code (heres T.the-row ys)))
         ∷ ‵ (froom tyPtr l₆ 0) ∷ ‵ (fdies tyPtr l₆) ∷ ‵ (froom tyBool l₅ 0) ∷ ‵ (fdies tyBool l₅) ∷ ‵ (froom word l₄ 0) ∷ ‵ (fdies word l₄)
         ∷ ‵ (fat fullShare word l₃ 0 (vint w64 (i .0))) ∷ ‵ (fdies word l₃) ∷ ‵ (fat fullShare T′.mir l₂ 0 mach) ∷ ‵ (fdies T′.mir l₂) ∷ ‵ (fat fullShare slice l₁ 0 s) ∷ ‵ (fdies slice l₁) ∷ ‵ (froom tyUnit l₀ 0) ∷ ‵ (fdies tyUnit l₀) ∷ []
 
@@ -142,14 +141,14 @@ module _ {M : Type 1} (𝓤 : URA M) (H : Heap 𝓤) (A : Atoms 𝓤) (W : Given
         (λ less. assigns ! (bin ! (load ! (from ! (stop !)) (look ! 10 refl)) (lit ! tt) (record { fits = far less })) (from ! (stop !)) (store ! 8 refl (tt, record { fits = far less })) $
         assigns ! (bin ! (load ! (from ! (fld ! refl (stop !))) (look-in ! 14 (sub ! 0 refl (whole !)))) (load ! (from ! (stop !)) (look ! 8 refl)) tt) (from ! (stop !)) (init ! 4 refl (tt, tt)) $
         rewrite ! 4 (λ (p : ℕ). ‵ (fat fullShare tyPtr l₆ 0 (vptr b p))) (sym (place-is record-size o (i .0))) refl $
-        elem-out ! T.the-row (Is T.the-row) (shows 𝓤 H A T.the-row) (LL.vals T.the-type T′.the-laws) (LL.tells T.the-type T′.the-laws) fullShare (filled t ys (i .0)) (i .0) (idleRecord emptyList) b o (within less) (λ _.
+        elem-out ! T.the-row (Is T.the-row) (shows 𝓤 H A T.the-row) (LL.vals T.the-type T′.the-laws) (LL.tells T.the-type T′.the-laws) fullShare (overwritten t ys (i .0)) (i .0) (idleRecord emptyList) b o (within less) (λ _.
         -- [records[i]; what it owns; the others; the open borrow; obs; auth; _6; …; _5; …; _4; …; _3; …; _2; …; _1; …; room for _0; …]
         assigns ! (of-opd ! (load ! (from ! (stop !)) (look ! 14 refl))) (from ! (hop ! (look ! 6 refl) (stop !))) (store-raw ! 0 refl typed) $
-        move ! (1 ∷ []) $ drop ! $ owned ! T.the-row (Is T.the-row) (LL.makes T.the-type T′.the-plain 𝓤 H A) t _ is $ move ! (1 ∷ 0 ∷ []) $ elem-put ! T.the-row fullShare (filled t ys (i .0)) (i .0) t (mach ∷ []) b o (within less) $
-        rewrite ! 0 (λ (l : List Record). ‵ (row T.the-row fullShare l b o)) (filled-next t ys (i .0)) refl $
+        move ! (1 ∷ []) $ drop ! $ owned ! T.the-row (Is T.the-row) (LL.makes T.the-type T′.the-plain 𝓤 H A) t _ is $ move ! (1 ∷ 0 ∷ []) $ elem-put ! T.the-row fullShare (overwritten t ys (i .0)) (i .0) t (mach ∷ []) b o (within less) $
+        rewrite ! 0 (λ (l : List Record). ‵ (row T.the-row fullShare l b o)) (overwritten-next t ys (i .0)) refl $
         assigns-last ! (bin ! (load ! (from ! (stop !)) (look ! 10 refl)) (lit ! tt) (record { fits = fits (next less) })) (from ! (stop !)) (store ! 10 refl (tt, record { fits = fits (next less) })) $
         forget ! 4 refl $ forget ! 6 refl $ forget ! 8 refl $ again ! Nearer At i (next less) (add-one-dec n (i .0) (ltb→lt (i .0) n less))))
-        (λ over. exec ! C Λ En lines.t-3 (atRet En Post) $ closes-slice ! tt T.the-row ys (filled t ys (i .0)) (length-filled t ys (i .0)) b o $
+        (λ over. exec ! C Λ En lines.t-3 (atRet En Post) $ closes-slice ! tt T.the-row ys (overwritten t ys (i .0)) (length-overwritten t ys (i .0)) b o $
         -- [obs; the borrow; the token; _6; …; _5; …; _4; …; _3; …; _2; …; _1; …; room for _0; …]
         assigns ! (of-opd ! (unit-lit !)) (from ! (stop !)) (init ! 15 refl (tt, tt)) $
         returns ! (look ! 15 refl) $ forget ! 5 refl $ forget ! 7 refl $ forget ! 9 refl $ forget ! 11 refl $ forget ! 13 refl $ forget ! 15 refl $
@@ -162,11 +161,11 @@ module _ {M : Type 1} (𝓤 : URA M) (H : Heap 𝓤) (A : Atoms 𝓤) (W : Given
         next : Holds (ltb (i .0) n) → Upto
         next less = (i .0 + 1, add-one-le (ltb→lt (i .0) n less))
 
-        within : Holds (ltb (i .0) n) → i .0 < length (filled t ys (i .0))
-        within less = subst (λ (m : ℕ). i .0 < m) (sym (length-filled t ys (i .0))) (ltb→lt (i .0) n less)
+        within : Holds (ltb (i .0) n) → i .0 < length (overwritten t ys (i .0))
+        within less = subst (λ (m : ℕ). i .0 < m) (sym (length-overwritten t ys (i .0))) (ltb→lt (i .0) n less)
 
         far : Holds (ltb (i .0) n) → i .0 * record-size < 2 ^ 64
-        far less = omega (arith, room .1, ltb→lt (i .0) n less)
+        far less = place-far n (i .0) room (ltb→lt (i .0) n less)
 
   walk : (𝓣 : Tables 𝓤 H) → ent 𝓤 (onEntry 𝓤 H A fill′.signature (κ, tt) (q, tt) a vals) (WpFn 𝓤 H (𝓣 .C) (𝓣 .Λ) code.function (s ∷ mach ∷ []) Post)
   walk 𝓣 =

@@ -3,7 +3,6 @@
 -- Nothing here looks into a record: `T` and `T′` are its type and its laws. Assumes nothing.
 use mathlib.Core.Path.{_≡_, refl, sym}
 use Prim.Native.Nat.{ℕ, _<_, _*_, _^_}
-use native.Mathlib.Omega.{arith}
 use mathlib.Core.List.{[], _∷_, List}
 use mathlib.Core.Bool.{not}
 use lib.ListN.{length, set, length-set}
@@ -45,7 +44,7 @@ use Rattle.thread_records.specs.Records.{emptyList, idleRecord}
 use Rattle.thread_records.proofs.Record as T
 use Rattle.thread_records.proofs.Record.Laws as T′
 use Rattle.dock.proofs.Slices.{ifs, closed}
-use Rattle.dock.proofs.Size.{record-size}
+use Rattle.dock.proofs.Size.{record-size, far}
 use Rattle.dock.proofs.tables.store.Key.{name as #dock·tables·store}
 use Rattle.dock.proofs.tables.store as store′
 use Rattle.dock.proofs.tables.store.Statement as stated
@@ -94,9 +93,6 @@ module _ {M : Type 1} (𝓤 : URA M) (H : Heap 𝓤) (A : Atoms 𝓤) (W : Given
   within : Holds (not (leb (length ts) i)) → i < length ts
   within some-one = nleb→lt (length ts) i some-one
 
-  far : i < length ts → i * record-size < 2 ^ 64
-  far l = omega (arith, room .1, l)
-
   module _ (C : Calls 𝓤 H) (Λ : Loops 𝓤 H) where
     walk : ent 𝓤 (onEntry 𝓤 H A store′.signature (κ, tt) (q, tt) a vals) (WpFn 𝓤 H C Λ code.function (s ∷ vint w64 i ∷ mach ∷ []) Post)
     walk =
@@ -112,7 +108,7 @@ module _ {M : Type 1} (𝓤 : URA M) (H : Heap 𝓤) (A : Atoms 𝓤) (W : Given
         returns-within ! Post refl (look ! 14 refl) $ forget ! 4 refl $ forget ! 6 refl $ forget ! 8 refl $ forget ! 10 refl $ forget ! 12 refl $ forget ! 14 refl $
         move ! (14 ∷ 15 ∷ []) $ free1 ! $ move ! (12 ∷ 13 ∷ []) $ free1 ! $ move ! (10 ∷ 11 ∷ []) $ free1 ! $ move ! (8 ∷ 9 ∷ []) $ free1 ! $ move ! (6 ∷ 7 ∷ []) $ free1 ! $ move ! (4 ∷ 5 ∷ []) $ free1 ! $ move ! (2 ∷ 3 ∷ []) $ free1 ! $ free0 ! $
         by ! (exits ts (sym (set-out ts i t (leb→le (length ts) i none))) refl))
-        (λ some-one. assigns ! (bin ! (load ! (from ! (stop !)) (look ! 10 refl)) (lit ! tt) (record { fits = far (within some-one) })) (from ! (stop !)) (store ! 6 refl (tt, record { fits = far (within some-one) })) $
+        (λ some-one. assigns ! (bin ! (load ! (from ! (stop !)) (look ! 10 refl)) (lit ! tt) (record { fits = far (length ts) i room (within some-one) })) (from ! (stop !)) (store ! 6 refl (tt, record { fits = far (length ts) i room (within some-one) })) $
         assigns ! (bin ! (load ! (from ! (fld ! refl (stop !))) (look-in ! 12 (sub ! 0 refl (whole !)))) (load ! (from ! (stop !)) (look ! 6 refl)) tt) (from ! (stop !)) (init ! 2 refl (tt, tt)) $
         rewrite ! 2 (λ (p : ℕ). ‵ (fat fullShare tyPtr l₆ 0 (vptr b p))) (sym (place-is record-size o i)) refl $
         fsplit ! $ move ! (1 ∷ []) $ fsplit ! $ move ! (0 ∷ 1 ∷ 3 ∷ []) $
