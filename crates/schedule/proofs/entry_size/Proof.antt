@@ -1,39 +1,34 @@
+use Rattle.schedule.proofs.Laws.{whole}
+use Rattle.schedule.specs.Format.{entryOf, isWhole, sizeOf}
+use mathlib.Core.Bool.{true, false}
+use mathlib.Core.Path.{_≡_, sym, ap, _∙_}
+use native.Mathlib.Omega.{arith}
 use borrow.Author.Needs.{needs}
 use Rattle.schedule.proofs.entry_size.Statement.{statement}
 use Rattle.schedule.proofs.entry_size.Tie as tie
-use Rattle.schedule.proofs.entry_size.Reads as reads
-use Rattle.schedule.proofs.entry_size.Lts as lts
-use Rattle.schedule.proofs.is_whole.Reads as is-whole-reads
-use Rattle.schedule.proofs.numbers.number2.Reads as number2-reads
-use Rattle.schedule.proofs.read_entry.Reads as read-entry-reads
 
--- src/lib.rt:165:9
 read-entry-requires : tie.Need-read-entry-requires
 read-entry-requires c κs = search needs
 
--- src/lib.rt:166:8
 is-whole-requires : tie.Need-is-whole-requires
 is-whole-requires c κs = search needs
 
--- src/lib.rt:167:21
 number2-requires : tie.Need-number2-requires
 number2-requires c κs = search needs
 
--- src/lib.rt:167:21
 cast-result : tie.Need-cast-result
 cast-result c = search needs
 
--- src/lib.rt:167:16
 add-result : tie.Need-add-result
 add-result c = search needs
 
--- src/lib.rt:167:9
 returns : tie.Need-returns
-returns c = ?
+unfolding sizeOf
+returns c = let s = c .before .before .before .before .before .args .bytes .now in let w : isWhole (entryOf s) ≡ true = ap isWhole (sym (c .before .before .before .read-entry .ensures)) ∙ sym (c .before .before .is-whole .ensures) ∙ c .before .if1 .taken in (simp (w, c .number2 .ensures .0), rw (c .number2 .ensures .0) (whole s w .fits))
 
--- src/lib.rt:162:1
 returns-2 : tie.Need-returns-2
-returns-2 c = ?
+unfolding sizeOf
+returns-2 c = let s = c .before .before .before .before .args .bytes .now in let w : isWhole (entryOf s) ≡ false = ap isWhole (sym (c .before .before .read-entry .ensures)) ∙ sym (c .before .is-whole .ensures) ∙ c .if1 .left in (simp w, omega arith)
 
 pub entry-size-spec : {M : Type 1} → statement M
 entry-size-spec =

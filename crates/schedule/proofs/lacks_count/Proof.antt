@@ -1,17 +1,12 @@
-use borrow.Author.Tests.{ne-eqb}
-use borrow.Author.Tests.{eq-eqb}
+use borrow.Author.Tests.{ne-eqb, eq-eqb}
 use Rattle.schedule.specs.Format.{lacksCount}
 use Rattle.schedule.proofs.lacks_count.Statement.{statement}
 use Rattle.schedule.proofs.lacks_count.Tie as tie
-use Rattle.schedule.proofs.lacks_count.Reads as reads
-use Rattle.schedule.proofs.lacks_count.Lts as lts
 
--- src/lib.rt:63:9
 returns : tie.Need-returns
 unfolding lacksCount
 returns c = simp (eq-eqb _ _ (c .if1 .taken))
 
--- src/lib.rt:59:1
 returns-2 : tie.Need-returns-2
 unfolding lacksCount
 returns-2 c = simp (ne-eqb _ _ (c .if1 .left))

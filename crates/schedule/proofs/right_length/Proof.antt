@@ -1,46 +1,35 @@
 use borrow.Author.Tests.{ne-eqb}
-use mathlib.Core.Path.{refl}
 use Rattle.schedule.specs.Format.{rightLength}
 use borrow.Author.Needs.{needs}
 use Rattle.schedule.proofs.right_length.Statement.{statement}
 use Rattle.schedule.proofs.right_length.Tie as tie
-use Rattle.schedule.proofs.right_length.Reads as reads
-use Rattle.schedule.proofs.right_length.Lts as lts
 
--- src/lib.rt:53:28
 mul-result : tie.Need-mul-result
 mul-result c = search needs
 
--- src/lib.rt:53:24
 add-result : tie.Need-add-result
 add-result c = search needs
 
--- src/lib.rt:45:1
 returns : tie.Need-returns
 unfolding rightLength
 returns c = simp (c .match .keys1)
 
--- src/lib.rt:45:1
 returns-2 : tie.Need-returns-2
 unfolding rightLength
 returns-2 c = simp (c .match .keys2)
 
--- src/lib.rt:45:1
 returns-3 : tie.Need-returns-3
 unfolding rightLength
 returns-3 c = simp (c .match .keys3)
 
--- src/lib.rt:45:1
 returns-4 : tie.Need-returns-4
 unfolding rightLength
 returns-4 c = simp (c .match .keys4)
 
--- src/lib.rt:45:1
 returns-5 : tie.Need-returns-5
 unfolding rightLength
 returns-5 c = simp (c .match .keys5)
 
--- src/lib.rt:45:1
 returns-6 : tie.Need-returns-6
 unfolding rightLength
 returns-6 c = simp (ne-eqb _ _ (c .match .rest .1), ne-eqb _ _ (c .match .rest .0 .1), ne-eqb _ _ (c .match .rest .0 .0 .1), ne-eqb _ _ (c .match .rest .0 .0 .0 .1), ne-eqb _ _ (c .match .rest .0 .0 .0 .0 .1))

@@ -1,29 +1,19 @@
-use borrow.Author.Tests.{le-ltb}
-use borrow.Author.Tests.{le-leb}
-use borrow.Author.Tests.{lt-leb}
-use borrow.Author.Tests.{lt-ltb}
+use borrow.Author.Tests.{le-ltb, lt-ltb}
 use Rattle.schedule.specs.Format.{wholeOf}
 use borrow.Author.Needs.{needs}
 use Rattle.schedule.proofs.whole.Statement.{statement}
 use Rattle.schedule.proofs.whole.Tie as tie
-use Rattle.schedule.proofs.whole.Reads as reads
-use Rattle.schedule.proofs.whole.Lts as lts
-use Rattle.schedule.proofs.body.Reads as body-reads
 
--- src/lib.rt:102:22
 add-if1 : tie.Need-add-if1
 add-if1 c = search needs
 
--- src/lib.rt:103:9
 returns : tie.Need-returns
 unfolding wholeOf
 returns c = simp (lt-ltb _ _ (c .if1 .taken))
 
--- src/lib.rt:105:5
 body-requires : tie.Need-body-requires
 body-requires c κs = search needs
 
--- src/lib.rt:98:1
 returns-2 : tie.Need-returns-2
 unfolding wholeOf
 returns-2 c = simp (c .body .ensures, le-ltb _ _ (c .before .if1 .left))

@@ -3,31 +3,22 @@ use native.Mathlib.Omega.{arith}
 use borrow.Author.Needs.{needs}
 use Rattle.schedule.proofs.numbers.number4.Statement.{statement}
 use Rattle.schedule.proofs.numbers.number4.Tie as tie
-use Rattle.schedule.proofs.numbers.number4.Reads as reads
-use Rattle.schedule.proofs.numbers.number4.Lts as lts
-use Rattle.schedule.proofs.numbers.number2.Reads as number2-reads
 
--- src/numbers.rt:29:9
 number2-requires : tie.Need-number2-requires
 number2-requires c κs = search needs
 
--- src/numbers.rt:30:31
 add-number2 : tie.Need-add-number2
 add-number2 c = search needs
 
--- src/numbers.rt:30:9
 number2-requires-2 : tie.Need-number2-requires-2
 number2-requires-2 c κs = search needs
 
--- src/numbers.rt:31:11
 mul-result : tie.Need-mul-result
 mul-result c = search needs
 
--- src/numbers.rt:31:5
 add-result : tie.Need-add-result
 add-result c = search needs
 
--- src/numbers.rt:25:1
 returns : tie.Need-returns
 unfolding le4
 returns c = omega arith
