@@ -9,12 +9,14 @@ use native.Mathlib.Omega.{arith}
 use borrow.Author.Tests.{le-ltb, eq-eqb}
 use lib.Dec.{eqb, ltb}
 use lib.ListN.{length, getD, take, drop, length-append}
+use lib.Seq.{drop-cons, take-append-seam, drop-append-seam}
 use Rattle.unique_index_set_enums.specs.Kinds.{owner, recordNumber}
 use Rattle.schedule.specs.declared.StartEntry.{StartEntry}
+use Rattle.schedule.specs.declared.ListEntry.{ListEntry}
 use Rattle.schedule.specs.declared.Entry.{Entry}
 use Rattle.schedule.specs.declared.Entry.the-variants.{Setup, Start, Step, Death, List, Bad, Cut}
 use Rattle.schedule.specs.Numbers.{le2, le4, le8}
-use Rattle.schedule.specs.Format.{rightLength, lacksCount, bodyOf, wholeOf, headedOf, entryOf, isWhole, sizeOf, restOf, ownersOf}
+use Rattle.schedule.specs.Format.{rightLength, lacksCount, bodyOf, wholeOf, headedOf, entryOf, isWhole, isList, sizeOf, restOf, ownersEnd, ownersOf}
 use Rattle.schedule.specs.Written.{written4, written8, written, InWidth, Bytes}
 use Rattle.schedule.proofs.Laws.{no}
 
@@ -65,3 +67,53 @@ read-written (List e) owners t w h =
     simp (a, d, two (4 + 8 * e .count), eqb-same (4 + 8 * e .count), b)
 read-written Bad owners t w h = no w
 read-written Cut owners t w h = no w
+
+whole-written : (e : Entry) (owners t : list.List ℕ) → isWhole e ≡ true → InWidth e owners → isWhole (entryOf (written e owners t)) ≡ true
+whole-written e owners t w h = ap isWhole (read-written e owners t w h) ∙ w
+
+-- with what stands behind it
+pub rest-written : (e : Entry) (owners t : list.List ℕ) → isWhole e ≡ true → InWidth e owners → restOf (written e owners t) ≡ t
+unfolding restOf sizeOf
+rest-written (Step who) owners t w h = simp (whole-written (Step who) owners t w h)
+rest-written (Death who) owners t w h = simp (whole-written (Death who) owners t w h)
+rest-written (Setup e) owners t w h = simp (whole-written (Setup e) owners t w h)
+rest-written (Start e) owners t w h = simp (whole-written (Start e) owners t w h)
+rest-written (List e) owners t w h =
+    let z : 2 + (4 + 8 * e .count) ≡ suc (suc (suc (suc (suc (suc (8 * e .count)))))) = omega arith in
+    simp (whole-written (List e) owners t w h, two (4 + 8 * e .count), z) (ap (λ (k : ℕ). drop k (owners ++ t)) (sym (h .1)) ∙ drop-append-seam owners t)
+rest-written Bad owners t w h = no w
+rest-written Cut owners t w h = no w
+
+-- and a list's owners
+pub owners-written : (e : ListEntry) (owners t : list.List ℕ) → InWidth (List e) owners → ownersOf (written (List e) owners t) ≡ owners
+unfolding ownersOf ownersEnd
+owners-written e owners t h =
+    let l : isList (entryOf (written (List e) owners t)) ≡ true = ap isList (read-written (List e) owners t refl h) in
+    let z : 6 + 8 * e .count - 6 ≡ length owners = omega (arith, h .1) in
+    simp (l, z) (take-append-seam owners t)
+
+-- ---- the other way. So many bytes from a place on, and what follows
+abbrev tab : list.List ℕ → ℕ → ℕ → list.List ℕ → list.List ℕ
+tab s k zero t = t
+tab s k (suc n) t = getD s k 0 ∷ tab s (suc k) n t
+
+front : (s : list.List ℕ) (n k : ℕ) → k + n ≤ length s → drop k s ≡ tab s k n (drop (k + n) s)
+front s zero k h = let z : k ≡ k + 0 = omega arith in ap (λ (i : ℕ). drop i s) z
+front s (suc n) k h =
+    let z : suc k + n ≡ k + suc n = omega arith in
+    drop-cons s k 0 (omega (arith, h)) ∙ ap (λ (l : list.List ℕ). getD s k 0 ∷ l) (front s n (suc k) (omega (arith, h)) ∙ ap (λ (i : ℕ). tab s (suc k) n (drop i s)) z)
+
+module _ (a b c d : ℕ) (ha : a < 256) (hb : b < 256) (hc : c < 256) (hd : d < 256) where
+  abbrev v : ℕ
+  v = a + 256 * b + 65536 * (c + 256 * d)
+
+  back4 : (t : list.List ℕ) → written4 v t ≡ a ∷ b ∷ c ∷ d ∷ t
+  back4 t =
+      let q : v / 256 ≡ b + 256 * (c + 256 * d) = omega (arith, ha, hb, hc, hd) in
+      let r : (b + 256 * (c + 256 * d)) / 256 ≡ c + 256 * d = omega (arith, hb, hc, hd) in
+      let u : (c + 256 * d) / 256 ≡ d = omega (arith, hc, hd) in
+      let p0 : v % 256 ≡ a = omega (arith, ha, hb, hc, hd) in
+      let p1 : (b + 256 * (c + 256 * d)) % 256 ≡ b = omega (arith, hb, hc, hd) in
+      let p2 : (c + 256 * d) % 256 ≡ c = omega (arith, hc, hd) in
+      let p3 : d % 256 ≡ d = omega (arith, hd) in
+      simp (q, r, u, p0, p1, p2, p3)
