@@ -2,14 +2,14 @@
 -- entry, written. Assumes nothing.
 use Prim.Native.Nat.{ℕ, zero, suc, _+_, _*_, _-_, _/_, _%_, _<_, _≤_}
 use mathlib.Core.Path.{_≡_, refl, sym, ap, _∙_}
-use mathlib.Core.Bool.{true, false}
+use mathlib.Core.Bool.{Bool, true, false}
 use mathlib.Core.List as list
 use mathlib.Core.List.{[], _∷_, _++_}
 use native.Mathlib.Omega.{arith}
-use borrow.Author.Tests.{le-ltb, eq-eqb}
+use borrow.Author.Tests.{le-ltb, eqb-true, eq-eqb}
 use lib.Dec.{eqb, ltb}
-use lib.ListN.{length, getD, take, drop, length-append}
-use lib.Seq.{drop-cons, take-append-seam, drop-append-seam}
+use lib.ListN.{length, getD, take, drop, length-append, take-append-drop}
+use lib.Seq.{drop-cons, drop-drop, take-append-seam, drop-append-seam}
 use Rattle.unique_index_set_enums.specs.Kinds.{owner, recordNumber}
 use Rattle.schedule.specs.declared.StartEntry.{StartEntry}
 use Rattle.schedule.specs.declared.ListEntry.{ListEntry}
@@ -18,7 +18,7 @@ use Rattle.schedule.specs.declared.Entry.the-variants.{Setup, Start, Ste
 use Rattle.schedule.specs.Numbers.{le2, le4, le8}
 use Rattle.schedule.specs.Format.{rightLength, lacksCount, bodyOf, wholeOf, headedOf, entryOf, isWhole, isList, sizeOf, restOf, ownersEnd, ownersOf}
 use Rattle.schedule.specs.Written.{written4, written8, written, InWidth, Bytes}
-use Rattle.schedule.proofs.Laws.{no}
+use Rattle.schedule.proofs.Laws.{no, Whole, whole}
 
 eqb-same : (n : ℕ) → eqb n n ≡ true
 eqb-same n = eq-eqb n n refl
@@ -117,3 +117,89 @@ module _ (a b c d : ℕ) (ha : a < 256) (hb : b < 256) (hc : c < 256) (hd : d < 
       let p2 : (c + 256 * d) % 256 ≡ c = omega (arith, hc, hd) in
       let p3 : d % 256 ≡ d = omega (arith, hd) in
       simp (q, r, u, p0, p1, p2, p3)
+
+-- what is read as a whole entry is that entry, written, with its owners and what follows
+module _ (s : list.List ℕ) (bytes : Bytes s) (w : isWhole (entryOf s) ≡ true) where
+  abbrev W : Whole s
+  W = whole s w
+
+  rest-at : (n : ℕ) → le2 s 0 ≡ n → restOf s ≡ drop (2 + n) s
+  unfolding restOf sizeOf
+  rest-at n e = simp (w, e)
+
+  -- a number that fits a byte is in the lower of two
+  low : (i n : ℕ) → n < 256 → le2 s i ≡ n → (getD s i 0 ≡ n) × (getD s (i + 1) 0 ≡ 0)
+  low i n h e = (omega (arith, bytes i, bytes (i + 1), h, e), omega (arith, bytes i, bytes (i + 1), h, e))
+
+  -- the five bytes of a step or a death, by its kind
+  five-back : (kind : ℕ) → kind < 256 → le2 s 2 ≡ kind → le2 s 0 ≡ 3 → 3 ∷ 0 ∷ kind ∷ 0 ∷ getD s 4 0 ∷ restOf s ≡ s
+  five-back kind h k l =
+      let f : 5 ≤ length s = omega (arith, W .fits, l) in
+      let a = low 0 3 (omega arith) l in
+      let b = low 2 kind h k in
+      simp (rest-at 3 l) (sym (front s 5 0 f ∙ simp (a .0, a .1, b .0, b .1)))
+
+  setup-back : le2 s 2 ≡ 1 → le2 s 0 ≡ 8 → 8 ∷ 0 ∷ 1 ∷ 0 ∷ getD s 4 0 ∷ getD s 5 0 ∷ written4 (le4 s 6) (restOf s) ≡ s
+  unfolding le4
+  setup-back k l =
+      let f : 10 ≤ length s = omega (arith, W .fits, l) in
+      let a = low 0 8 (omega arith) l in
+      let b = low 2 1 (omega arith) k in
+      simp (rest-at 8 l) (ap (λ (z : list.List ℕ). 8 ∷ 0 ∷ 1 ∷ 0 ∷ getD s 4 0 ∷ getD s 5 0 ∷ z) (back4 _ _ _ _ (bytes 6) (bytes 7) (bytes 8) (bytes 9) (drop 10 s))
+      ∙ sym (front s 10 0 f ∙ simp (a .0, a .1, b .0, b .1)))
+
+  owner-back : (t : list.List ℕ) → written8 (le8 s 10) t ≡ tab s 10 8 t
+  unfolding le4 le8
+  owner-back t =
+      let m : le8 s 10 % 4294967296 ≡ le4 s 10 = omega (arith, bytes 10, bytes 11, bytes 12, bytes 13) in
+      let n : le8 s 10 / 4294967296 ≡ le4 s 14 = omega (arith, bytes 10, bytes 11, bytes 12, bytes 13) in
+      simp (m, n) (back4 _ _ _ _ (bytes 10) (bytes 11) (bytes 12) (bytes 13) (written4 (le4 s 14) t)
+      ∙ ap (λ (z : list.List ℕ). getD s 10 0 ∷ getD s 11 0 ∷ getD s 12 0 ∷ getD s 13 0 ∷ z) (back4 _ _ _ _ (bytes 14) (bytes 15) (bytes 16) (bytes 17) t))
+
+  start-back : le2 s 2 ≡ 2 → le2 s 0 ≡ 17 → 17 ∷ 0 ∷ 2 ∷ 0 ∷ getD s 4 0 ∷ getD s 5 0 ∷ written4 (le4 s 6) (written8 (le8 s 10) (getD s 18 0 ∷ restOf s)) ≡ s
+  unfolding le4
+  start-back k l =
+      let f : 19 ≤ length s = omega (arith, W .fits, l) in
+      let a = low 0 17 (omega arith) l in
+      let b = low 2 2 (omega arith) k in
+      simp (rest-at 17 l) (ap (λ (z : list.List ℕ). 17 ∷ 0 ∷ 2 ∷ 0 ∷ getD s 4 0 ∷ getD s 5 0 ∷ z)
+      (back4 _ _ _ _ (bytes 6) (bytes 7) (bytes 8) (bytes 9) (written8 (le8 s 10) (getD s 18 0 ∷ drop 19 s))
+      ∙ ap (λ (z : list.List ℕ). getD s 6 0 ∷ getD s 7 0 ∷ getD s 8 0 ∷ getD s 9 0 ∷ z) (owner-back (getD s 18 0 ∷ drop 19 s)))
+      ∙ sym (front s 19 0 f ∙ simp (a .0, a .1, b .0, b .1)))
+
+  list-back : le2 s 2 ≡ 5 → le2 s 0 ≡ 4 + 8 * getD s 5 0 → isList (entryOf s) ≡ true
+      → (4 + 8 * getD s 5 0) % 256 ∷ (4 + 8 * getD s 5 0) / 256 ∷ 5 ∷ 0 ∷ getD s 4 0 ∷ getD s 5 0 ∷ ownersOf s ++ restOf s ≡ s
+  unfolding ownersOf ownersEnd
+  list-back k l i =
+      let f : 6 ≤ length s = omega (arith, W .fits, l) in
+      let b = low 2 5 (omega arith) k in
+      let p : (4 + 8 * getD s 5 0) % 256 ≡ getD s 0 0 = omega (arith, l, bytes 0) in
+      let q : (4 + 8 * getD s 5 0) / 256 ≡ getD s 1 0 = omega (arith, l, bytes 0) in
+      let z : 6 + 8 * getD s 5 0 - 6 ≡ 8 * getD s 5 0 = omega arith in
+      let x : 2 + (4 + 8 * getD s 5 0) ≡ 6 + 8 * getD s 5 0 = omega arith in
+      let y : drop (2 + (4 + 8 * getD s 5 0)) s ≡ drop (8 * getD s 5 0) (drop 6 s) = ap (λ (j : ℕ). drop j s) x ∙ sym (drop-drop (8 * getD s 5 0) 6 s) in
+      simp (rest-at _ l, i, z, y, p, q, take-append-drop (8 * getD s 5 0) (drop 6 s)) (sym (front s 6 0 f ∙ simp (b .0, b .1)))
+
+  -- by its kind
+  by-kind : (a b c d e : Bool) → eqb (le2 s 2) 1 ≡ a → eqb (le2 s 2) 2 ≡ b → eqb (le2 s 2) 3 ≡ c → eqb (le2 s 2) 4 ≡ d → eqb (le2 s 2) 5 ≡ e → written (entryOf s) (ownersOf s) (restOf s) ≡ s
+  unfolding rightLength bodyOf
+  by-kind true b c d e pa pb pc pd pe =
+      let r : eqb (le2 s 0) 8 ≡ true = rw pa at (W .right) in
+      rw (W .is) (simp pa (setup-back (eqb-true _ _ pa) (eqb-true _ _ r)))
+  by-kind false true c d e pa pb pc pd pe =
+      let r : eqb (le2 s 0) 17 ≡ true = rw (pa, pb) at (W .right) in
+      rw (W .is) (simp (pa, pb) (start-back (eqb-true _ _ pb) (eqb-true _ _ r)))
+  by-kind false false true d e pa pb pc pd pe =
+      let r : eqb (le2 s 0) 3 ≡ true = rw (pa, pb, pc) at (W .right) in
+      rw (W .is) (simp (pa, pb, pc) (five-back 3 (omega arith) (eqb-true _ _ pc) (eqb-true _ _ r)))
+  by-kind false false false true e pa pb pc pd pe =
+      let r : eqb (le2 s 0) 3 ≡ true = rw (pa, pb, pc, pd) at (W .right) in
+      rw (W .is) (simp (pa, pb, pc, pd) (five-back 4 (omega arith) (eqb-true _ _ pd) (eqb-true _ _ r)))
+  by-kind false false false false true pa pb pc pd pe =
+      let r : eqb (le2 s 0) (4 + 8 * getD s 5 0) ≡ true = rw (pa, pb, pc, pd, pe) at (W .right) in
+      let i : isList (entryOf s) ≡ true = rw (W .is) (simp (pa, pb, pc, pd)) in
+      rw (W .is) (simp (pa, pb, pc, pd) (list-back (eqb-true _ _ pe) (eqb-true _ _ r) i))
+  by-kind false false false false false pa pb pc pd pe = let r : false ≡ true = rw (pa, pb, pc, pd, pe) at (W .right) in no r
+
+  pub written-read : written (entryOf s) (ownersOf s) (restOf s) ≡ s
+  written-read = by-kind _ _ _ _ _ refl refl refl refl refl
