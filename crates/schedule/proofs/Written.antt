@@ -4,13 +4,13 @@ use Prim.Native.Nat.{ℕ, zero, suc, _+_, _*_, _-_, _/_, _%_, _<_, _≤_}
 use mathlib.Core.Path.{_≡_, refl, sym, ap, _∙_}
 use mathlib.Core.Bool.{Bool, true, false}
 use mathlib.Core.List as list
-use mathlib.Core.List.{[], _∷_, _++_}
+use mathlib.Core.List.{_∷_, _++_}
 use native.Mathlib.Omega.{arith}
 use borrow.Author.Tests.{le-ltb, eqb-true, eq-eqb}
 use lib.Dec.{eqb, ltb}
-use lib.ListN.{length, getD, take, drop, length-append, take-append-drop}
+use lib.ListN.{length, getD, drop, length-append, take-append-drop}
 use lib.Seq.{drop-cons, drop-drop, take-append-seam, drop-append-seam}
-use Rattle.unique_index_set_enums.specs.Kinds.{owner, recordNumber}
+use Rattle.unique_index_set_enums.specs.Kinds.{owner}
 use Rattle.schedule.specs.declared.StartEntry.{StartEntry}
 use Rattle.schedule.specs.declared.ListEntry.{ListEntry}
 use Rattle.schedule.specs.declared.Entry.{Entry}
