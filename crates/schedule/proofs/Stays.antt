@@ -6,9 +6,9 @@ use mathlib.Core.Bool.{Bool, true, false, cond}
 use mathlib.Core.List as list
 use mathlib.Core.List.{_∷_, _++_, append-assoc}
 use native.Mathlib.Omega.{arith}
-use borrow.Author.Tests.{ltb-false, le-ltb, eqb-true}
+use borrow.Author.Tests.{ltb-false, le-ltb}
 use lib.Dec.{eqb, ltb}
-use lib.ListN.{length, getD, take, drop, length-append, length-drop}
+use lib.ListN.{List·getD-append, length, getD, drop, length-append, length-drop}
 use lib.Seq.{length-take-le}
 use Rattle.schedule.specs.declared.Entry.{Entry}
 use Rattle.schedule.specs.declared.Entry.the-variants.{Setup, Start, Step, Death, List, Bad, Cut}
@@ -66,3 +66,62 @@ module _ (s : list.List ℕ) (bytes : Bytes s) (w : isWhole (entryOf s) ≡ true
   rest-grows t =
       ap restOf (ap (λ (z : list.List ℕ). z ++ t) (sym (written-read s bytes w)) ∙ written-append (entryOf s) (ownersOf s) (restOf s) t w)
       ∙ rest-written (entryOf s) (ownersOf s) (restOf s ++ t) w in-width
+
+-- ---- what is no entry
+abbrev pub isBad : Entry → Bool
+isBad (Setup e) = false
+isBad (Start e) = false
+isBad (Step who) = false
+isBad (Death who) = false
+isBad (List e) = false
+isBad Bad = true
+isBad Cut = false
+
+cut : (b : Bool) (e : Entry) → isBad (cond b Cut e) ≡ true → (b ≡ false) × (isBad e ≡ true)
+cut true e w = no w
+cut false e w = (refl, w)
+
+wrong : (b : Bool) (e : Entry) → isBad e ≡ false → isBad (cond b e Bad) ≡ true → b ≡ false
+wrong true e n w = no (sym n ∙ w)
+wrong false e n w = refl
+
+good : (a b c d e : Bool) (x y z u v : Entry) → isBad x ≡ false → isBad y ≡ false → isBad z ≡ false → isBad u ≡ false → isBad v ≡ false
+    → isBad (cond a Cut (cond b x (cond c y (cond d z (cond e u v))))) ≡ false
+good true b c d e x y z u v px py pz pu pv = refl
+good false true c d e x y z u v px py pz pu pv = px
+good false false true d e x y z u v px py pz pu pv = py
+good false false false true e x y z u v px py pz pu pv = pz
+good false false false false true x y z u v px py pz pu pv = pu
+good false false false false false x y z u v px py pz pu pv = pv
+
+whole-good : (s : list.List ℕ) (len kind : ℕ) → isBad (wholeOf s len kind) ≡ false
+unfolding wholeOf bodyOf
+whole-good s len kind = good (ltb (length s) (2 + len)) (eqb kind 1) (eqb kind 2) (eqb kind 3) (eqb kind 4) (Setup _) (Start _) (Step _) (Death _) (List _) refl refl refl refl refl
+
+module _ (s t : list.List ℕ) where
+  longer : (i : ℕ) → i < length s → getD (s ++ t) i 0 ≡ getD s i 0
+  longer i h = List·getD-append s t 0 i h
+
+  -- the sixth byte is looked at for a list alone, and then it is there
+  count-same : (len : ℕ) (b : Bool) → eqb (le2 s 2) 5 ≡ b → lacksCount (le2 s 2) (length s) ≡ false
+      → (rightLength (le2 s 2) len (getD (s ++ t) 5 0) ≡ rightLength (le2 s 2) len (getD s 5 0)) × (lacksCount (le2 s 2) (length (s ++ t)) ≡ false)
+  unfolding lacksCount rightLength
+  count-same len true p l =
+      let h : ltb (length s) 6 ≡ false = rw p at l in
+      let g : 6 ≤ length s = ltb-false _ _ h in
+      (simp (longer 5 g), simp (p, le-ltb (length (s ++ t)) 6 (omega (arith, length-append s t, g))))
+  count-same len false p l = (simp p, simp p)
+
+  pub bad-stays : isBad (entryOf s) ≡ true → entryOf (s ++ t) ≡ Bad
+  unfolding entryOf headedOf
+  bad-stays w =
+      let a = cut (ltb (length s) 4) (headedOf s (le2 s 0) (le2 s 2)) w in
+      let b = cut (lacksCount (le2 s 2) (length s)) _ (a .1) in
+      let c = wrong (rightLength (le2 s 2) (le2 s 0) (getD s 5 0)) (wholeOf s (le2 s 0) (le2 s 2)) (whole-good s (le2 s 0) (le2 s 2)) (b .1) in
+      let g : 4 ≤ length s = ltb-false _ _ (a .0) in
+      let d = count-same (le2 s 0) _ refl (b .0) in
+      let e0 = longer 0 (omega (arith, g)) in
+      let e1 = longer 1 (omega (arith, g)) in
+      let e2 = longer 2 (omega (arith, g)) in
+      let e3 = longer 3 (omega (arith, g)) in
+      simp (e0, e1, e2, e3, le-ltb (length (s ++ t)) 4 (omega (arith, length-append s t, g)), d .1, d .0, c)
