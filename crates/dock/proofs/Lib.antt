@@ -5,4 +5,6 @@ pub mod Size
 pub mod Overwritten
 pub mod Callees
 pub mod Arrays
+pub mod PlainLender
+pub mod RobustLender
 pub mod Works
