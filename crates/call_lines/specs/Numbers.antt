@@ -1,7 +1,8 @@
 -- All the numbers of a record, in an order of the gate's programs' own.
-use Prim.Native.Nat.{ℕ}
-use mathlib.Core.Bool.{Bool, cond}
+use Prim.Native.Nat.{ℕ, zero, suc}
+use mathlib.Core.Bool.{Bool, true, false, cond}
 use mathlib.Core.List.{List, [], _∷_}
+use lib.Dec.{eqb, ltb}
 use lib.ListN.{getD}
 use Rattle.unique_index_set_enums.specs.Kinds.{owner}
 use Rattle.thread_records.specs.declared.OwnerList.{OwnerList}
@@ -39,3 +40,11 @@ recordNumbers t =
     ∷ ownerAt (t .list) 6
     ∷ ownerAt (t .list) 7
     ∷ []
+
+-- the first n numbers of two lists are the same
+unfoldable pub agreeBelow : ℕ → List ℕ → List ℕ → Bool
+agreeBelow zero a b = true
+agreeBelow (suc n) a b = cond (eqb (getD a n 0) (getD b n 0)) (agreeBelow n a b) false
+
+unfoldable pub leastOf : ℕ → ℕ → ℕ
+leastOf count most = cond (ltb most count) most count

@@ -2,9 +2,9 @@
 use thread_records::OwnerList;
 use thread_records::Record;
 ghost use mathlib.Core.Path.{_≡_};
-ghost use Prim.Native.Nat.{_<_};
+ghost use Prim.Native.Nat.{_<_, _≤_, _%_};
 ghost use lib.ListN.{length};
-ghost use Rattle.call_lines.specs.Numbers.{flag, ownerAt, recordNumbers};
+ghost use Rattle.call_lines.specs.Numbers.{flag, ownerAt, recordNumbers, agreeBelow, leastOf};
 
 // A line: a letter, and up to six numbers in decimal or, behind an x, in hex.
 pub struct Line {
@@ -172,4 +172,42 @@ pub fn record_numbers(thread: Record) -> [u64; 23]
         owner_at(list, 6),
         owner_at(list, 7),
     ]
+}
+
+// Whether two records are the same in every number.
+pub fn same_record(a: Record, b: Record) -> bool
+    ensures { λ r. ⌜ r ≡ agreeBelow 23 (recordNumbers a) (recordNumbers b) ⌝ }
+{
+    let one = record_numbers(a);
+    let other = record_numbers(b);
+    let mut left: usize = 23;
+    while left > 0 {
+        left -= 1;
+        if one[left] != other[left] {
+            return false;
+        }
+    }
+    true
+}
+
+pub fn least(count: usize, most: usize) -> usize
+    ensures { λ r. ⌜ (r ≡ leastOf count most) × (r ≤ most) ⌝ }
+{
+    if count > most {
+        return most;
+    }
+    count
+}
+
+// A number of a line as 32 bits, and as a byte: what is above is left out.
+pub fn narrow(value: u64) -> u32
+    ensures { λ r. ⌜ r ≡ value % 4294967296 ⌝ }
+{
+    (value % 0x1_0000_0000) as u32
+}
+
+pub fn byte(value: u64) -> u8
+    ensures { λ r. ⌜ r ≡ value % 256 ⌝ }
+{
+    (value % 256) as u8
 }

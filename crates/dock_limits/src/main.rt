@@ -6,6 +6,9 @@ mod telling;
 mod worlds;
 
 use call_lines::Line;
+use call_lines::byte;
+use call_lines::least;
+use call_lines::narrow;
 use call_lines::read_line;
 use calls::Request;
 use dock::Task;
@@ -25,17 +28,8 @@ use unique_index_set_enums::RecordNumber;
 use worlds::World;
 use worlds::called;
 use worlds::fresh_world;
-use worlds::least;
 use worlds::turned_to;
 use worlds::with_records;
-
-fn byte(value: u64) -> u8 {
-    (value % 256) as u8
-}
-
-fn narrow(value: u64) -> u32 {
-    (value % 0x1_0000_0000) as u32
-}
 
 fn brought_by(line: Line) -> OwnerList {
     OwnerList {
@@ -101,9 +95,6 @@ fn call_line(line: Line, world: World) -> World {
 }
 
 fn lent(world: World, count: u64) -> World {
-    if count > 17 {
-        return with_records(world, 17);
-    }
     with_records(world, least(count as usize, 17))
 }
 

@@ -2,9 +2,9 @@
 use crate::worlds::Ended;
 use crate::worlds::World;
 use crate::worlds::same_buffers;
-use crate::worlds::same_record;
 use crate::worlds::same_sets;
 use call_lines::record_numbers;
+use call_lines::same_record;
 use calls::Noted;
 use calls::Progress;
 use calls::Report;

@@ -3,7 +3,7 @@ use crate::lending::PlainLent;
 use crate::lending::RobustLent;
 use crate::lending::plain_lent;
 use crate::lending::robust_lent;
-use call_lines::record_numbers;
+use call_lines::least;
 use calls::Report;
 use dock::Task;
 use robust_unique_index_set::RobustUniqueIndexSet;
@@ -12,7 +12,6 @@ use thread_records::empty_list;
 use thread_records::idle_record;
 use unique_index_set::UniqueIndexSet;
 use unique_index_set_enums::Generation;
-ghost use Prim.Native.Nat.{_≤_, _<_};
 
 // The table is that of the dock that the lines are for; the other dock's stands aside. The first `records` are lent.
 pub(crate) struct World {
@@ -53,15 +52,6 @@ pub(crate) fn fresh_world() -> World {
         table: [thread; 17],
         aside: [thread; 17],
     }
-}
-
-pub(crate) fn least(count: usize, most: usize) -> usize
-    ensures { λ r. ⌜ r ≤ most ⌝ }
-{
-    if count > most {
-        return most;
-    }
-    count
 }
 
 // The lines that follow are for the plain dock or for the robust one.
@@ -190,19 +180,6 @@ pub(crate) fn called(world: World, task: Task) -> Ended {
         return plain_called(world, task);
     }
     robust_called(world, task)
-}
-
-pub(crate) fn same_record(a: Record, b: Record) -> bool {
-    let one = record_numbers(a);
-    let other = record_numbers(b);
-    let mut i: usize = 0;
-    while i < 23 {
-        if one[i] != other[i] {
-            return false;
-        }
-        i += 1;
-    }
-    true
 }
 
 pub(crate) fn same_sets(a: World, b: World) -> bool {

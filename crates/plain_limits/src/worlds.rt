@@ -7,7 +7,10 @@ use crate::telling::tell_report;
 use crate::telling::tell_slots;
 use crate::telling::text;
 use call_lines::Line;
-use call_lines::record_numbers;
+use call_lines::byte;
+use call_lines::least;
+use call_lines::narrow;
+use call_lines::same_record;
 use calls::Request;
 use thread_records::OwnerList;
 use thread_records::Record;
@@ -26,7 +29,6 @@ use unique_index_set::step;
 use unique_index_set_enums::Index;
 use unique_index_set_enums::OwnerId;
 use unique_index_set_enums::RecordNumber;
-ghost use Prim.Native.Nat.{_≤_};
 
 // The first of the slots and of the custody entries are lent, and `records` records of which this is the one numbered `who`.
 pub struct World {
@@ -56,40 +58,10 @@ pub(crate) fn fresh_world() -> World {
     }
 }
 
-fn least(count: usize, most: usize) -> usize
-    ensures { λ r. ⌜ r ≤ most ⌝ }
-{
-    if count > most {
-        return most;
-    }
-    count
-}
-
-fn narrow(value: u64) -> u32 {
-    (value % 0x1_0000_0000) as u32
-}
-
-fn byte(value: u64) -> u8 {
-    (value % 256) as u8
-}
-
 fn same_entries(a: [u32; 8], b: [u32; 8]) -> bool {
     let mut i: usize = 0;
     while i < 8 {
         if a[i] != b[i] {
-            return false;
-        }
-        i += 1;
-    }
-    true
-}
-
-fn same_record(a: Record, b: Record) -> bool {
-    let one = record_numbers(a);
-    let other = record_numbers(b);
-    let mut i: usize = 0;
-    while i < 23 {
-        if one[i] != other[i] {
             return false;
         }
         i += 1;

@@ -2,13 +2,13 @@
 use crate::telling::decimal;
 use crate::telling::tell_report;
 use crate::worlds::World;
-use crate::worlds::byte;
 use crate::worlds::copy_cells;
 use crate::worlds::is_same_cells;
 use crate::worlds::is_same_world;
-use crate::worlds::least;
-use crate::worlds::narrow;
 use call_lines::Line;
+use call_lines::byte;
+use call_lines::least;
+use call_lines::narrow;
 use calls::Report;
 use calls::Request;
 use calls::SetKind;

@@ -1,10 +1,10 @@
 // What is lent is set: L cells; Q records who; W capacity generation; V cell value; R and T a record's call; N and O the
 // list that waits; A the owners that a list brings.
 use crate::worlds::World;
-use crate::worlds::byte;
-use crate::worlds::least;
-use crate::worlds::narrow;
 use call_lines::Line;
+use call_lines::byte;
+use call_lines::least;
+use call_lines::narrow;
 use robust_unique_index_set::RobustUniqueIndexSet;
 use thread_records::Counting;
 use thread_records::OwnerList;

@@ -1,6 +1,6 @@
 // What is written.
 use crate::worlds::World;
-use crate::worlds::least;
+use call_lines::least;
 use call_lines::record_numbers;
 use calls::Noted;
 use calls::Progress;

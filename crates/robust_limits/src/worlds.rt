@@ -1,5 +1,5 @@
 // The set and the record that the calls are made on; the cells stand beside it.
-use call_lines::record_numbers;
+use call_lines::same_record;
 use robust_unique_index_set::RobustUniqueIndexSet;
 use thread_records::OwnerList;
 use thread_records::Record;
@@ -7,7 +7,6 @@ use thread_records::empty_list;
 use thread_records::idle_record;
 use unique_index_set_enums::Generation;
 use unique_index_set_enums::RecordNumber;
-ghost use Prim.Native.Nat.{_≤_};
 
 // The first of the cells are lent, and `records` records of which this is the one numbered `who`; the owners that a list
 // brings wait beside.
@@ -34,23 +33,6 @@ pub(crate) fn fresh_world() -> World {
     }
 }
 
-pub(crate) fn least(count: usize, most: usize) -> usize
-    ensures { λ r. ⌜ r ≤ most ⌝ }
-{
-    if count > most {
-        return most;
-    }
-    count
-}
-
-pub(crate) fn narrow(value: u64) -> u32 {
-    (value % 0x1_0000_0000) as u32
-}
-
-pub(crate) fn byte(value: u64) -> u8 {
-    (value % 256) as u8
-}
-
 pub(crate) fn copy_cells(cells: &[u64], before: &mut [u64]) {
     let mut i: usize = 0;
     while i < cells.len() && i < before.len() {
@@ -70,19 +52,6 @@ pub(crate) fn is_same_cells(cells: &[u64], before: &[u64]) -> bool {
     true
 }
 
-fn is_same_record(a: Record, b: Record) -> bool {
-    let one = record_numbers(a);
-    let other = record_numbers(b);
-    let mut i: usize = 0;
-    while i < 23 {
-        if one[i] != other[i] {
-            return false;
-        }
-        i += 1;
-    }
-    true
-}
-
 pub(crate) fn is_same_world(a: World, b: World) -> bool {
     let a_thread = a.thread;
     let b_thread = b.thread;
@@ -92,5 +61,5 @@ pub(crate) fn is_same_world(a: World, b: World) -> bool {
     if a.set.generation.0 != b.set.generation.0 {
         return false;
     }
-    is_same_record(a_thread, b_thread)
+    same_record(a_thread, b_thread)
 }
