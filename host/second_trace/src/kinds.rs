@@ -1,4 +1,4 @@
-//! The words of 01 that both sets share. An index, an owner and a generation
+//! The words of the scope that both sets share. An index, an owner and a generation
 //! are kinds of their own; the tag stays inside the plain set's head word.
 
 /// Which slot or cell of a set.
@@ -73,7 +73,7 @@ impl Call {
     }
 }
 
-/// The Rust's `ReleaseMode`, with 01's numbers.
+/// The Rust's `ReleaseMode`, with the scope's numbers.
 #[derive(Clone, Copy, PartialEq, Eq, Debug)]
 pub enum Mode {
     Default,
@@ -131,7 +131,7 @@ impl Answer {
         Answer::Done(locked as u32)
     }
 
-    /// 01's number for it, and the value, 0 unless the number is 0.
+    /// the scope's number for it, and the value, 0 unless the number is 0.
     pub fn numbers(self) -> (u8, u32) {
         match self {
             Answer::Done(value) => (0, value),

@@ -1,10 +1,10 @@
-//! A second reading of document 01, 'Schedule and trace'.
+//! A second reading of the scope, 'Schedule and trace'.
 //!
 //! A schedule is run over one of the two index sets of iceoryx2-bb-lock-free
 //! 0.10.0, one shared access at a time, and each entry's line is written. This
-//! was written from 01, from readings.md and from the Rust under docs/src
+//! was written from the scope, from the readings of its open points and from the Rust under docs/src
 //! alone, without sight of the port, so that the two can be compared. It is
-//! meant to be read beside 01; nothing in it is tuned.
+//! meant to be read beside the scope; nothing in it is tuned.
 //!
 //! * `kinds`: indices, owners, generations; calls, modes, answers, refusals.
 //! * `format`: bytes to entries.
@@ -31,7 +31,7 @@ mod tests;
 
 pub use lines::write_trace;
 
-/// The trace of a schedule: the lines that 01 gives, each with its newline.
+/// The trace of a schedule: the lines that the scope gives, each with its newline.
 pub fn trace(schedule: &[u8]) -> Vec<u8> {
     let mut lines = Vec::new();
     write_trace(schedule, &mut lines).expect("writing to memory does not fail");

@@ -1,7 +1,7 @@
 //! The table of thread records over one set, and what one entry does to both.
 //!
 //! A refusal changes nothing: each test stands before the first change. The
-//! tests come in 01's order: 9 here, then 13, 5, 7 and 8 (those that belong to
+//! tests come in the scope's order: 9 here, then 13, 5, 7 and 8 (those that belong to
 //! a call stand in the set's `start`).
 
 use crate::format::Action;

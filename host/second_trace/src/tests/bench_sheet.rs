@@ -1,4 +1,4 @@
-//! 01's bench sheet, and what it says beside it is run and compared.
+//! the scope's bench sheet, and what it says beside it is run and compared.
 
 use super::{text, Schedule, PLAIN, ROBUST};
 use crate::format::{first_entry, Entry};

@@ -1,4 +1,4 @@
-//! What 01 and the Rust say, as schedules with the lines they must give. The
+//! What the scope and the Rust say, as schedules with the lines they must give. The
 //! lines were worked out by hand; none was taken from a run.
 
 mod answers;
