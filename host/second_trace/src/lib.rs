@@ -2,9 +2,9 @@
 //!
 //! A schedule is run over one of the two index sets of iceoryx2-bb-lock-free
 //! 0.10.0, one shared access at a time, and each entry's line is written. This
-//! was written from the scope, from the readings of its open points and from the Rust under docs/src
-//! alone, without sight of the port, so that the two can be compared. It is
-//! meant to be read beside the scope; nothing in it is tuned.
+//! was written from the scope, from the readings of its open points and from
+//! the Rust alone, without sight of the port, so that the two can be compared.
+//! It is meant to be read beside the scope; nothing in it is tuned.
 //!
 //! * `kinds`: indices, owners, generations; calls, modes, answers, refusals.
 //! * `format`: bytes to entries.
