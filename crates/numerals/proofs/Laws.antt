@@ -1,4 +1,4 @@
--- A decimal text is read back as its number, and begins with no zero but that of 0 itself. Assumes nothing.
+-- A decimal text is read back as its number, begins with no zero but that of 0 itself, and has 20 digits at most. Assumes nothing.
 use Prim.Native.Nat.{ℕ, zero, suc, _+_, _*_, _-_, _/_, _%_, _≤_, _<_}
 use mathlib.Core.Path.{_≡_, refl, ap, _∙_}
 use mathlib.Core.Bool.{Bool, true, false}
@@ -6,7 +6,7 @@ use mathlib.Core.List.{List, [], _∷_}
 use native.Mathlib.Omega.{arith}
 use borrow.Author.Tests.{ltb-true, ltb-false}
 use lib.Dec.{ltb}
-use lib.ListN.{getD}
+use lib.ListN.{length, getD}
 use Rattle.numerals.specs.Digits.{decimalBy, decimalOf}
 use Rattle.numerals.proofs.Spelled.{by-more, by-last, by-none}
 
@@ -44,3 +44,16 @@ lead-by (suc n) v t false e p h =
 -- no leading zero
 pub decimal-leads : (v : ℕ) → 0 < v → v < 18446744073709551616 → 48 < getD (decimalOf v) 0 0
 decimal-leads v p h = lead-by 20 v [] _ refl p (omega (arith, h))
+
+short-by : (n v : ℕ) (t : List ℕ) (b : Bool) → ltb v 10 ≡ b → length (decimalBy n v t) ≤ n + length t
+short-by zero v t b e = let z : length (decimalBy 0 v t) ≡ length t = ap length (by-none v t) in omega (arith, z)
+short-by (suc n) v t true e =
+    let z : length (decimalBy (suc n) v t) ≡ suc (length t) = ap length (by-last n v t (ltb-true _ _ e)) in
+    omega (arith, z)
+short-by (suc n) v t false e =
+    let z : length (decimalBy (suc n) v t) ≡ length (decimalBy n (v / 10) ((48 + v % 10) ∷ t)) = ap length (by-more n v t (ltb-false _ _ e)) in
+    let h : length (decimalBy n (v / 10) ((48 + v % 10) ∷ t)) ≤ n + suc (length t) = short-by n (v / 10) ((48 + v % 10) ∷ t) _ refl in
+    omega (arith, z, h)
+
+pub decimal-short : (v : ℕ) → length (decimalOf v) ≤ 20
+decimal-short v = omega (arith, short-by 20 v [] _ refl)

@@ -1,7 +1,7 @@
 // The text of numbers, in ASCII: decimal with no leading zero, and 16 upper-case digits of hex.
 ghost use mathlib.Core.Path.{_≡_};
 ghost use Prim.Native.Nat.{_<_, _/_, _%_};
-ghost use lib.ListN.{drop};
+ghost use lib.ListN.{length, drop};
 ghost use Rattle.numerals.specs.Digits.{hexDigit, hexOf, decimalOf};
 
 // The digits stand at the end, from `first` on.
@@ -11,7 +11,7 @@ pub struct DecimalText {
 }
 
 pub fn decimal(value: u64) -> DecimalText
-    ensures { λ r. ⌜ (drop (r .first) (r .digits) ≡ decimalOf value) × (r .first < 20) ⌝ }
+    ensures { λ r. ⌜ (drop (r .first) (r .digits) ≡ decimalOf value) × ((r .first < 20) × (length (r .digits) ≡ 20)) ⌝ }
 {
     let mut digits = [48u8; 20];
     let mut first: usize = 19;

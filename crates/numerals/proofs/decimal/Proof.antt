@@ -25,7 +25,7 @@ loop-holds : tie.Need-loop-holds Inv-loop μ-loop
 loop-holds c = begun (c .args .value) (replicate 20 48) refl
 
 returns : tie.Need-returns Inv-loop μ-loop
-returns c = let s = c .before .before .loop .inv in (spelled-whole _ _ _ _ s (c .before .loop-test .taken) (c .if1 .taken), s .within)
+returns c = let s = c .before .before .loop .inv in (spelled-whole _ _ _ _ s (c .before .loop-test .taken) (c .if1 .taken), (s .within, s .long))
 
 sub-first : tie.Need-sub-first Inv-loop μ-loop
 sub-first c = search needs
@@ -46,7 +46,7 @@ loop-again : tie.Need-loop-again Inv-loop μ-loop
 loop-again c = let n = c .if1 .left in further _ _ _ _ (c .before .before .loop .inv) (c .before .loop-test .taken) (omega (arith, n))
 
 returns-2 : tie.Need-returns-2 Inv-loop μ-loop
-returns-2 c = let s = c .before .loop .inv in (spelled _ _ _ _ s (c .loop-test .left), s .within)
+returns-2 c = let s = c .before .loop .inv in (spelled _ _ _ _ s (c .loop-test .left), (s .within, s .long))
 
 pub decimal-spec : {M : Type 1} → statement M
 decimal-spec =
