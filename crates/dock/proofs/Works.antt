@@ -52,13 +52,13 @@ setup-works : {S : Type 0} (v : Verdict) (e : Effect S) (s : S) (records : List 
 setup-works (Refused why) e s records a = ap (λ (l : List Record). record { left = table s l; report = refusedReport why; steps = 0 }) (set-getD records 0 (idleRecord emptyList) ∙ sym (same-map (λ t. t) (λ t. refl) records))
 setup-works Accepted e s records a = ap (λ (l : List Record). record { left = table (e .shared) l; report = e .report; steps = 0 }) (rw a (every (e .thread) records))
 
-plain-works : (w : Work) (brought : OwnerList) (s : plain.Shared) (records : List Record)
+pub plain-works : (w : Work) (brought : OwnerList) (s : plain.Shared) (records : List Record)
     → workedTable (plainWorkOf (length records) w brought s (readAt w records)) records ≡ plainWorks w brought (table s records)
 unfolding plainsetup.setupOf
 plain-works (Setup capacity) brought s records = setup-works (plainsetup.setupJudged (length records) capacity s) (plainsetup.setFresh capacity s) s records refl
 plain-works (Turn w) brought s records = there (λ n s′ t. plainTurnOf n (w .who) (w .operation) brought s′ t) (w .who) s records _ (w .who .0) refl refl
 
-robust-works : (w : Work) (brought : OwnerList) (s : robust.Shared) (records : List Record)
+pub robust-works : (w : Work) (brought : OwnerList) (s : robust.Shared) (records : List Record)
     → workedTable (robustWorkOf (length records) w brought s (readAt w records)) records ≡ robustWorks w brought (table s records)
 unfolding robustsetup.setupOf
 robust-works (Setup capacity) brought s records = setup-works (robustsetup.setupJudged (length records) capacity s) (robustsetup.setFresh capacity s) s records refl
