@@ -1,10 +1,10 @@
--- Text laid into a buffer: it stays as long as it was, and one text behind another is both. Assumes nothing.
+-- Text laid into a buffer: one text behind another is both. Assumes nothing.
 use Prim.Native.Nat.{ℕ, _+_, _-_, _≤_}
 use mathlib.Core.Path.{_≡_, refl, sym, ap, _∙_}
 use mathlib.Core.List.{List, [], _++_, append-nil, append-assoc}
 use native.Mathlib.Omega.{arith}
 use borrow.Rule.Slice.PartMut.{putMid, midOf, mid-len, post-is}
-use lib.ListN.{length, take, drop, length-append, length-drop, drop-of-length-le}
+use lib.ListN.{length, take, drop, length-append, drop-of-length-le}
 use lib.Seq.{take-length, length-take-le, take-at, drop-at, drop-drop}
 use Rattle.trace_text.specs.Laid.{laid, LaidAs}
 
@@ -20,15 +20,6 @@ laid-part l ys text at h e =
     let k : drop (length text) (midOf at (at + length text - at) l) ≡ [] = drop-of-length-le (midOf at (at + length text - at) l) {i = length text} (omega (arith, n)) in
     let y : ys ≡ text = e ∙ ap (λ (t : List ℕ). take (length text) text ++ t) k ∙ append-nil (take (length text) text) ∙ take-length text in
     ap (λ (t : List ℕ). take at l ++ (t ++ drop (at + length text - at) (drop at l))) y ∙ ap (λ (t : List ℕ). take at l ++ (text ++ t)) (post-is at (at + length text) l (omega arith))
-
-pub laid-long : (l text : List ℕ) (at : ℕ) → at + length text ≤ length l → length (laid l at text) ≡ length l
-unfolding laid
-laid-long l text at h =
-    let f : length (take at l) ≡ at = length-take-le at l (omega (arith, h)) in
-    let d : length (drop (at + length text) l) ≡ length l - (at + length text) = length-drop (at + length text) l in
-    let b : length (text ++ drop (at + length text) l) ≡ length text + length (drop (at + length text) l) = length-append text _ in
-    let w : length (take at l ++ (text ++ drop (at + length text) l)) ≡ length (take at l) + length (text ++ drop (at + length text) l) = length-append (take at l) _ in
-    omega (arith, f, d, b, w, h)
 
 module _ (l a : List ℕ) (at : ℕ) where
   -- the buffer with the first text, up to its end and from there on

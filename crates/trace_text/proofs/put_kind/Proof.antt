@@ -1,51 +1,38 @@
-use mathlib.Core.Path.{sym, ap, _∙_}
+use mathlib.Core.Path.{sym, ap}
 use Rattle.trace_text.specs.Lines as lines
 use Rattle.trace_text.proofs.Laying.{laid-as}
 use native.Mathlib.Omega.{arith}
 use borrow.Author.Needs.{needs}
 use Rattle.trace_text.proofs.put_kind.Statement.{statement}
 use Rattle.trace_text.proofs.put_kind.Tie as tie
-use Rattle.trace_text.proofs.put_kind.Reads as reads
-use Rattle.trace_text.proofs.put_kind.Lts as lts
-use Rattle.trace_text.proofs.put.put.Reads as put-reads
 
--- src/lib.rt:58:31
 enum-told : tie.Need-enum-told
 enum-told c = search needs
 
--- src/lib.rt:58:40
 slice-aggregate-put : tie.Need-slice-aggregate-put
 slice-aggregate-put c = search needs
 
--- src/lib.rt:58:27
 put-requires : tie.Need-put-requires
 put-requires c κs = search needs
 
--- src/lib.rt:59:32
 enum-told-2 : tie.Need-enum-told-2
 enum-told-2 c = search needs
 
--- src/lib.rt:59:41
 slice-aggregate-put-2 : tie.Need-slice-aggregate-put-2
 slice-aggregate-put-2 c = search needs
 
--- src/lib.rt:59:28
 put-requires-2 : tie.Need-put-requires-2
 put-requires-2 c κs = search needs
 
--- src/lib.rt:52:1
 same-length : tie.Need-same-length
 same-length c = search needs
 
--- src/lib.rt:52:1
 returns : tie.Need-returns
 returns c = (laid-as _ _ _ _ _ _ (ap lines.kindWord (sym (c .before .before .before .before .before .enum-told .given .1))) (c .before .before .put .ensures), omega (arith, c .before .before .put .ensures .1))
 
--- src/lib.rt:52:1
 same-length-2 : tie.Need-same-length-2
 same-length-2 c = search needs
 
--- src/lib.rt:52:1
 returns-2 : tie.Need-returns-2
 returns-2 c = (laid-as _ _ _ _ _ _ (ap lines.kindWord (sym (c .before .before .before .before .before .enum-told2 .given .1))) (c .before .before .put2 .ensures), omega (arith, c .before .before .put2 .ensures .1))
 

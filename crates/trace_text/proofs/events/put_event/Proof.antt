@@ -1,227 +1,166 @@
-use mathlib.Core.Path.{sym, ap, _∙_}
+use mathlib.Core.Path.{sym, ap}
 use Rattle.trace_text.specs.Lines as lines
 use Rattle.trace_text.proofs.Laying.{laid-as}
 use borrow.Author.Needs.{needs}
 use Rattle.trace_text.proofs.events.put_event.Statement.{statement}
 use Rattle.trace_text.proofs.events.put_event.Tie as tie
-use Rattle.trace_text.proofs.events.put_event.Reads as reads
-use Rattle.trace_text.proofs.events.put_event.Lts as lts
-use Rattle.calls.proofs.Answer.number.Reads as Answer-number-reads
-use Rattle.calls.proofs.Answer.value.Reads as value-reads
-use Rattle.calls.proofs.Refusal.number.Reads as Refusal-number-reads
-use Rattle.trace_text.proofs.events.put_one.Reads as put-one-reads
-use Rattle.trace_text.proofs.events.put_pair.Reads as put-pair-reads
-use Rattle.trace_text.proofs.put.put.Reads as put-reads
 
--- src/events.rt:49:29
 enum-told : tie.Need-enum-told
 enum-told c = search needs
 
--- src/events.rt:49:38
 slice-aggregate-put : tie.Need-slice-aggregate-put
 slice-aggregate-put c = search needs
 
--- src/events.rt:49:25
 put-requires : tie.Need-put-requires
 put-requires c κs = search needs
 
--- src/events.rt:50:28
 enum-told-2 : tie.Need-enum-told-2
 enum-told-2 c = search needs
 
--- src/events.rt:50:37
 slice-aggregate-put-2 : tie.Need-slice-aggregate-put-2
 slice-aggregate-put-2 c = search needs
 
--- src/events.rt:50:24
 put-requires-2 : tie.Need-put-requires-2
 put-requires-2 c κs = search needs
 
--- src/events.rt:51:28
 enum-told-3 : tie.Need-enum-told-3
 enum-told-3 c = search needs
 
--- src/events.rt:51:37
 slice-aggregate-put-3 : tie.Need-slice-aggregate-put-3
 slice-aggregate-put-3 c = search needs
 
--- src/events.rt:51:24
 put-requires-3 : tie.Need-put-requires-3
 put-requires-3 c κs = search needs
 
--- src/events.rt:52:21
 enum-known-event : tie.Need-enum-known-event
 enum-known-event c = search needs
 
--- src/events.rt:55:13
 slice-aggregate-put-pair : tie.Need-slice-aggregate-put-pair
 slice-aggregate-put-pair c = search needs
 
--- src/events.rt:56:13
 number-requires : tie.Need-number-requires
 number-requires c κs = search needs
 
--- src/events.rt:56:13
 cast-put-pair : tie.Need-cast-put-pair
 cast-put-pair c = search needs
 
--- src/events.rt:57:13
 value-requires : tie.Need-value-requires
 value-requires c κs = search needs
 
--- src/events.rt:57:13
 cast-put-pair-2 : tie.Need-cast-put-pair-2
 cast-put-pair-2 c = search needs
 
--- src/events.rt:52:32
 put-pair-requires : tie.Need-put-pair-requires
 put-pair-requires c κs = search needs
 
--- src/events.rt:59:28
 enum-told-4 : tie.Need-enum-told-4
 enum-told-4 c = search needs
 
--- src/events.rt:59:37
 slice-aggregate-put-4 : tie.Need-slice-aggregate-put-4
 slice-aggregate-put-4 c = search needs
 
--- src/events.rt:59:24
 put-requires-4 : tie.Need-put-requires-4
 put-requires-4 c κs = search needs
 
--- src/events.rt:60:24
 enum-known-event-2 : tie.Need-enum-known-event-2
 enum-known-event-2 c = search needs
 
--- src/events.rt:60:53
 slice-aggregate-put-one : tie.Need-slice-aggregate-put-one
 slice-aggregate-put-one c = search needs
 
--- src/events.rt:60:67
 number-requires-2 : tie.Need-number-requires-2
 number-requires-2 c κs = search needs
 
--- src/events.rt:60:67
 cast-put-one : tie.Need-cast-put-one
 cast-put-one c = search needs
 
--- src/events.rt:60:36
 put-one-requires : tie.Need-put-one-requires
 put-one-requires c κs = search needs
 
--- src/events.rt:61:27
 enum-told-5 : tie.Need-enum-told-5
 enum-told-5 c = search needs
 
--- src/events.rt:61:36
 slice-aggregate-put-5 : tie.Need-slice-aggregate-put-5
 slice-aggregate-put-5 c = search needs
 
--- src/events.rt:61:23
 put-requires-5 : tie.Need-put-requires-5
 put-requires-5 c κs = search needs
 
--- src/events.rt:62:22
 enum-known-event-3 : tie.Need-enum-known-event-3
 enum-known-event-3 c = search needs
 
--- src/events.rt:62:49
 slice-aggregate-put-one-2 : tie.Need-slice-aggregate-put-one-2
 slice-aggregate-put-one-2 c = search needs
 
--- src/events.rt:62:61
 cast-put-one-2 : tie.Need-cast-put-one-2
 cast-put-one-2 c = search needs
 
--- src/events.rt:62:32
 put-one-requires-2 : tie.Need-put-one-requires-2
 put-one-requires-2 c κs = search needs
 
--- src/events.rt:63:22
 enum-known-event-4 : tie.Need-enum-known-event-4
 enum-known-event-4 c = search needs
 
--- src/events.rt:63:57
 slice-aggregate-put-pair-2 : tie.Need-slice-aggregate-put-pair-2
 slice-aggregate-put-pair-2 c = search needs
 
--- src/events.rt:63:69
 cast-put-pair-3 : tie.Need-cast-put-pair-3
 cast-put-pair-3 c = search needs
 
--- src/events.rt:63:39
 put-pair-requires-2 : tie.Need-put-pair-requires-2
 put-pair-requires-2 c κs = search needs
 
--- src/events.rt:44:1
 same-length : tie.Need-same-length
 same-length c = search needs
 
--- src/events.rt:44:1
 returns : tie.Need-returns
 returns c = laid-as _ _ _ _ _ _ (sym (ap lines.eventText (c .before .before .before .before .before .enum-told .given .1))) (c .before .before .put .ensures)
 
--- src/events.rt:44:1
 same-length-2 : tie.Need-same-length-2
 same-length-2 c = search needs
 
--- src/events.rt:44:1
 returns-2 : tie.Need-returns-2
 returns-2 c = laid-as _ _ _ _ _ _ (sym (ap lines.eventText (c .before .before .before .before .before .enum-told2 .given .1))) (c .before .before .put2 .ensures)
 
--- src/events.rt:44:1
 same-length-3 : tie.Need-same-length-3
 same-length-3 c = search needs
 
--- src/events.rt:44:1
 returns-3 : tie.Need-returns-3
 returns-3 c = laid-as _ _ _ _ _ _ (sym (ap lines.eventText (c .before .before .before .before .before .enum-told3 .given .1))) (c .before .before .put3 .ensures)
 
--- src/events.rt:44:1
 same-length-4 : tie.Need-same-length-4
 same-length-4 c = search needs
 
--- src/events.rt:44:1
 returns-4 : tie.Need-returns-4
 returns-4 c = laid-as _ _ _ _ _ _ (simp (c .before .before .before .value .ensures, c .before .before .before .before .number .ensures, c .before .before .before .before .before .before .before .before .event .given .1)) (c .before .before .put-pair .ensures)
 
--- src/events.rt:44:1
 same-length-5 : tie.Need-same-length-5
 same-length-5 c = search needs
 
--- src/events.rt:44:1
 returns-5 : tie.Need-returns-5
 returns-5 c = laid-as _ _ _ _ _ _ (sym (ap lines.eventText (c .before .before .before .before .before .enum-told4 .given .1))) (c .before .before .put4 .ensures)
 
--- src/events.rt:44:1
 same-length-6 : tie.Need-same-length-6
 same-length-6 c = search needs
 
--- src/events.rt:44:1
 returns-6 : tie.Need-returns-6
 returns-6 c = laid-as _ _ _ _ _ _ (simp (c .before .before .before .number2 .ensures, c .before .before .before .before .before .before .before .event2 .given .1)) (c .before .before .put-one .ensures)
 
--- src/events.rt:44:1
 same-length-7 : tie.Need-same-length-7
 same-length-7 c = search needs
 
--- src/events.rt:44:1
 returns-7 : tie.Need-returns-7
 returns-7 c = laid-as _ _ _ _ _ _ (sym (ap lines.eventText (c .before .before .before .before .before .enum-told5 .given .1))) (c .before .before .put5 .ensures)
 
--- src/events.rt:44:1
 same-length-8 : tie.Need-same-length-8
 same-length-8 c = search needs
 
--- src/events.rt:44:1
 returns-8 : tie.Need-returns-8
 returns-8 c = laid-as _ _ _ _ _ _ (simp (c .before .before .before .before .before .before .before .event3 .given .1)) (c .before .before .put-one2 .ensures)
 
--- src/events.rt:44:1
 same-length-9 : tie.Need-same-length-9
 same-length-9 c = search needs
 
--- src/events.rt:44:1
 returns-9 : tie.Need-returns-9
 returns-9 c = laid-as _ _ _ _ _ _ (simp (c .before .before .before .before .before .before .before .event4 .given .1)) (c .before .before .put-pair2 .ensures)
 

@@ -3,35 +3,25 @@ use Rattle.trace_text.proofs.Laying.{laid-part}
 use borrow.Author.Needs.{needs}
 use Rattle.trace_text.proofs.put.put.Statement.{statement}
 use Rattle.trace_text.proofs.put.put.Tie as tie
-use Rattle.trace_text.proofs.put.put.Reads as reads
-use Rattle.trace_text.proofs.put.put.Lts as lts
-use Rattle.bytes.proofs.copy.Reads as copy-reads
 
--- src/put.rt:14:15
 add-end : tie.Need-add-end
 add-end c = search needs
 
--- src/put.rt:15:23
 sub-copy : tie.Need-sub-copy
 sub-copy c = search needs
 
--- src/put.rt:15:23
 part-copy-start : tie.Need-part-copy-start
 part-copy-start c = search needs
 
--- src/put.rt:15:23
 part-copy-end : tie.Need-part-copy-end
 part-copy-end c = search needs
 
--- src/put.rt:15:5
 copy-requires : tie.Need-copy-requires
 copy-requires c κs = search needs
 
--- src/put.rt:10:1
 same-length : tie.Need-same-length
 same-length c = search needs
 
--- src/put.rt:10:1
 returns : tie.Need-returns
 returns c = (laid-part _ _ _ _ (c .before .before .before .before .before .before .pre) (c .before .before .copy .ensures .1), refl)
 

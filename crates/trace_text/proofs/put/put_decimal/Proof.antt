@@ -8,36 +8,25 @@ use Rattle.trace_text.proofs.Laying.{laid-as}
 use borrow.Author.Needs.{needs}
 use Rattle.trace_text.proofs.put.put_decimal.Statement.{statement}
 use Rattle.trace_text.proofs.put.put_decimal.Tie as tie
-use Rattle.trace_text.proofs.put.put_decimal.Reads as reads
-use Rattle.trace_text.proofs.put.put_decimal.Lts as lts
-use Rattle.numerals.proofs.decimal.Reads as decimal-reads
-use Rattle.trace_text.proofs.put.put.Reads as put-reads
 
--- src/put.rt:22:9
 decimal-requires : tie.Need-decimal-requires
 decimal-requires c κs = search needs
 
--- src/put.rt:25:18
 sub-put : tie.Need-sub-put
 sub-put c = search needs
 
--- src/put.rt:25:18
 part-put-start : tie.Need-part-put-start
 part-put-start c = search needs
 
--- src/put.rt:25:18
 part-put-end : tie.Need-part-put-end
 part-put-end c = omega (arith, c .before .before .before .decimal .ensures .1 .1)
 
--- src/put.rt:25:5
 put-requires : tie.Need-put-requires
 put-requires c κs = search needs
 
--- src/put.rt:18:1
 same-length : tie.Need-same-length
 same-length c = search needs
 
--- src/put.rt:18:1
 returns : tie.Need-returns
 returns c =
     let d = c .before .before .before .before .before .before .before .decimal in

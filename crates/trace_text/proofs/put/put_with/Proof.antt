@@ -3,24 +3,16 @@ use Rattle.trace_text.proofs.Laying.{then}
 use borrow.Author.Needs.{needs}
 use Rattle.trace_text.proofs.put.put_with.Statement.{statement}
 use Rattle.trace_text.proofs.put.put_with.Tie as tie
-use Rattle.trace_text.proofs.put.put_with.Reads as reads
-use Rattle.trace_text.proofs.put.put_with.Lts as lts
-use Rattle.trace_text.proofs.put.put.Reads as put-reads
-use Rattle.trace_text.proofs.put.put_decimal.Reads as put-decimal-reads
 
--- src/put.rt:41:9
 put-requires : tie.Need-put-requires
 put-requires c κs = search needs
 
--- src/put.rt:42:5
 put-decimal-requires : tie.Need-put-decimal-requires
 put-decimal-requires c κs = search needs
 
--- src/put.rt:37:1
 same-length : tie.Need-same-length
 same-length c = search needs
 
--- src/put.rt:37:1
 returns : tie.Need-returns
 returns c =
     let a = c .before .before .before .before .before .before .before .before .before .before in
