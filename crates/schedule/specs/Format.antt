@@ -2,8 +2,10 @@
 use Prim.Native.Nat.{ℕ, _+_, _*_, _-_}
 use mathlib.Core.Bool.{Bool, true, false, cond}
 use mathlib.Core.List as list
+use mathlib.Core.List.{[], _∷_}
 use lib.ListN.{length, getD, take, drop}
 use lib.Dec.{eqb, ltb}
+use Rattle.unique_index_set_enums.specs.declared.OwnerId.{OwnerId}
 use Rattle.unique_index_set_enums.specs.Kinds.{owner, recordNumber}
 use Rattle.schedule.specs.declared.Entry.{Entry}
 use Rattle.schedule.specs.declared.Entry.the-variants.{Setup, Start, Step, Death, List, Bad, Cut}
@@ -78,3 +80,12 @@ ownersEnd s = cond (isList (entryOf s)) (6 + 8 * getD s 5 0) 0
 
 unfoldable pub ownersOf : list.List ℕ → list.List ℕ
 ownersOf s = take (ownersEnd s - 6) (drop 6 s)
+
+-- the owner at a place of a list's bytes, 0 behind their end; the first 8
+abbrev pub ownerAt : list.List ℕ → ℕ → OwnerId
+ownerAt owners i = owner (le8 owners (8 * i))
+
+unfoldable pub firstOwners : list.List ℕ → list.List OwnerId
+firstOwners s =
+    let owners = ownersOf s in
+    ownerAt owners 0 ∷ ownerAt owners 1 ∷ ownerAt owners 2 ∷ ownerAt owners 3 ∷ ownerAt owners 4 ∷ ownerAt owners 5 ∷ ownerAt owners 6 ∷ ownerAt owners 7 ∷ []

@@ -1,3 +1,4 @@
 pub mod Numbers
 pub mod Format
 pub mod Written
+pub mod Joining

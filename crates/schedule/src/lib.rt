@@ -1,7 +1,9 @@
 // Reads a schedule: the entry at the front of its bytes, and the rest of them.
+mod joining;
 mod numbers;
 
 use calls::Request;
+pub use joining::keep;
 use numbers::byte_at;
 use numbers::number2;
 use numbers::number4;
@@ -11,7 +13,7 @@ use unique_index_set_enums::RecordNumber;
 ghost use mathlib.Core.Path.{_≡_};
 ghost use Prim.Native.Nat.{_≤_, _<_};
 ghost use lib.ListN.{length};
-ghost use Rattle.schedule.specs.Format.{rightLength, lacksCount, bodyOf, wholeOf, headedOf, entryOf, isWhole, isList, sizeOf, restOf, ownersEnd, ownersOf};
+ghost use Rattle.schedule.specs.Format.{rightLength, lacksCount, bodyOf, wholeOf, headedOf, entryOf, isWhole, isList, sizeOf, restOf, ownersEnd, ownersOf, firstOwners};
 
 // The bytes of a setup, which is the first entry of a schedule: any set, any number of records, any capacity.
 pub struct SetupEntry {
@@ -197,4 +199,21 @@ pub fn owners(bytes: &[u8]) -> &[u8]
         return &bytes[0..0];
     }
     &bytes[6..end]
+}
+
+// The first 8 of them, 0 where there is none.
+pub fn first_owners(bytes: &[u8]) -> [OwnerId; 8]
+    ensures { λ r. ⌜ r ≡ firstOwners (now (bytes .entry)) ⌝ }
+{
+    let listed = owners(bytes);
+    [
+        OwnerId(number8(listed, 0)),
+        OwnerId(number8(listed, 8)),
+        OwnerId(number8(listed, 16)),
+        OwnerId(number8(listed, 24)),
+        OwnerId(number8(listed, 32)),
+        OwnerId(number8(listed, 40)),
+        OwnerId(number8(listed, 48)),
+        OwnerId(number8(listed, 56)),
+    ]
 }

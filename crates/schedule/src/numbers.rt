@@ -23,7 +23,7 @@ pub(crate) fn number2(bytes: &[u8], at: usize) -> u32
 }
 
 pub(crate) fn number4(bytes: &[u8], at: usize) -> u32
-    requires { ⌜ at ≤ 32 ⌝ }
+    requires { ⌜ at ≤ 62 ⌝ }
     ensures { λ r. ⌜ r ≡ le4 (now (bytes .entry)) at ⌝ }
 {
     let low = number2(bytes, at);
@@ -32,7 +32,7 @@ pub(crate) fn number4(bytes: &[u8], at: usize) -> u32
 }
 
 pub(crate) fn number8(bytes: &[u8], at: usize) -> u64
-    requires { ⌜ at ≤ 16 ⌝ }
+    requires { ⌜ at ≤ 56 ⌝ }
     ensures { λ r. ⌜ r ≡ le8 (now (bytes .entry)) at ⌝ }
 {
     let low = number4(bytes, at);

@@ -4,7 +4,7 @@ use mathlib.Core.Path.{_≡_, refl, sym, ap, _∙_}
 use mathlib.Core.List.{List, [], _++_, append-nil, append-assoc}
 use native.Mathlib.Omega.{arith}
 use borrow.Rule.Slice.PartMut.{putMid, midOf, mid-len, post-is}
-use lib.ListN.{length, take, drop, length-append, drop-of-length-le}
+use lib.ListN.{length, take, drop, length-append, length-drop, take-append-drop, drop-of-length-le}
 use lib.Seq.{take-length, length-take-le, take-at, drop-at, drop-drop}
 use Rattle.trace_text.specs.Laid.{laid, LaidAs}
 
@@ -53,3 +53,16 @@ module _ (l l₁ a : List ℕ) (at p : ℕ) where
   -- the same text by another name
   pub laid-as : (b : List ℕ) → a ≡ b → LaidAs l at a l₁ p → LaidAs l at b l₁ p
   laid-as b e h = rw (sym e) h
+
+-- no text leaves the buffer as it is
+pub laid-none : (l : List ℕ) (at : ℕ) → LaidAs l at [] l at
+unfolding laid
+laid-none l at = let n : at + 0 ≡ at = omega arith in (sym (ap (λ (k : ℕ). take at l ++ drop k l) n ∙ take-append-drop at l), sym n)
+
+-- text that has room in the buffer leaves its length
+pub laid-length : (l text : List ℕ) (at : ℕ) → at + length text ≤ length l → length (laid l at text) ≡ length l
+unfolding laid
+laid-length l text at h =
+    let f : length (take at l) ≡ at = length-take-le at l (omega (arith, h)) in
+    let d : length (drop (at + length text) l) ≡ length l - (at + length text) = length-drop (at + length text) l in
+    length-append (take at l) (text ++ drop (at + length text) l) ∙ ap (λ (n : ℕ). length (take at l) + n) (length-append text (drop (at + length text) l)) ∙ omega (arith, f, d, h)

@@ -15,3 +15,8 @@ fits l l′ at p line h (e, f) = rw (le-ltb (length l) (at + 128) h) (e, f)
 pub lacks : (l : List ℕ) (at : ℕ) (line : Line) → length l < at + 128 → (l ≡ lineIn l at line) × (at ≡ lineEnd (length l) at line)
 unfolding hasRoom
 lacks l at line h = rw (lt-ltb (length l) (at + 128) h) (refl, refl)
+
+-- the other way: where there is room, what `put_line` leaves is the line laid
+pub laid-whole : (l l′ : List ℕ) (at p : ℕ) (line : Line) → at + 128 ≤ length l → (l′ ≡ lineIn l at line) × (p ≡ lineEnd (length l) at line) → LaidAs l at (lineText line) l′ p
+unfolding hasRoom
+laid-whole l l′ at p line h e = rw (le-ltb (length l) (at + 128) h) at e

@@ -1,0 +1,4 @@
+pub mod Setups
+pub mod Pieces
+pub mod Traces
+pub mod Joined
