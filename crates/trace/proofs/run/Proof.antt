@@ -1,94 +1,72 @@
+use borrow.Author.Needs.{needs}
+use lib.ListN.{length}
+use mathlib.Core.Path.{_≡_}
 use Rattle.trace.proofs.run.Statement.{statement}
 use Rattle.trace.proofs.run.Tie as tie
-use Rattle.trace.proofs.run.Reads as reads
-use Rattle.trace.proofs.run.Lts as lts
-use Rattle.feeds.proofs.fresh_feed.Reads as fresh-feed-reads
-use Rattle.trace.proofs.go_on.Reads as go-on-reads
-use Rattle.trace_lines.proofs.fresh_tracer.Reads as fresh-tracer-reads
 
 abbrev Inv-loop : tie.InvT-loop
 Inv-loop input₀ out₀ slots₀ custody₀ cells₀ going₀ calls₀ input out slots custody cells going calls =
-    ?
+    (length input ≡ length input₀) × (length out ≡ length out₀) × (length slots ≡ length slots₀) × (length custody ≡ length custody₀) × (length cells ≡ length cells₀)
 
 abbrev μ-loop : tie.MeasureT-loop
-μ-loop input₀ out₀ slots₀ custody₀ cells₀ going₀ calls₀ input out slots custody cells going calls =
-    ?
+μ-loop input₀ out₀ slots₀ custody₀ cells₀ going₀ calls₀ input out slots custody cells going calls = calls
 
--- src/main.rt:77:17
 fresh-tracer-requires : tie.Need-fresh-tracer-requires Inv-loop μ-loop
-fresh-tracer-requires c κs = ?
+fresh-tracer-requires c κs = search needs
 
--- src/main.rt:78:15
 fresh-feed-requires : tie.Need-fresh-feed-requires Inv-loop μ-loop
-fresh-feed-requires c κs = ?
+fresh-feed-requires c κs = search needs
 
--- src/main.rt:82:5
 loop-holds : tie.Need-loop-holds Inv-loop μ-loop
-loop-holds c = ?
+loop-holds c = search needs
 
--- src/main.rt:84:9
 go-on-requires : tie.Need-go-on-requires Inv-loop μ-loop
-go-on-requires c κs = ?
+go-on-requires c κs = search needs
 
--- src/main.rt:85:9
 sub-calls : tie.Need-sub-calls Inv-loop μ-loop
-sub-calls c = ?
+sub-calls c = search needs
 
--- src/main.rt:82:5
 loop-less : tie.Need-loop-less Inv-loop μ-loop
-loop-less c = ?
+loop-less c = search needs
 
--- src/main.rt:82:5
 loop-again : tie.Need-loop-again Inv-loop μ-loop
-loop-again c = ?
+loop-again c = search needs
 
--- src/main.rt:69:1
 same-length : tie.Need-same-length Inv-loop μ-loop
-same-length c = ?
+same-length c = search needs
 
--- src/main.rt:69:1
 same-length-2 : tie.Need-same-length-2 Inv-loop μ-loop
-same-length-2 c = ?
+same-length-2 c = search needs
 
--- src/main.rt:69:1
 same-length-3 : tie.Need-same-length-3 Inv-loop μ-loop
-same-length-3 c = ?
+same-length-3 c = search needs
 
--- src/main.rt:69:1
 same-length-4 : tie.Need-same-length-4 Inv-loop μ-loop
-same-length-4 c = ?
+same-length-4 c = search needs
 
--- src/main.rt:69:1
 same-length-5 : tie.Need-same-length-5 Inv-loop μ-loop
-same-length-5 c = ?
+same-length-5 c = search needs
 
--- src/main.rt:69:1
 returns : tie.Need-returns Inv-loop μ-loop
-returns c = ?
+returns c = search needs
 
--- src/main.rt:69:1
 same-length-6 : tie.Need-same-length-6 Inv-loop μ-loop
-same-length-6 c = ?
+same-length-6 c = search needs
 
--- src/main.rt:69:1
 same-length-7 : tie.Need-same-length-7 Inv-loop μ-loop
-same-length-7 c = ?
+same-length-7 c = search needs
 
--- src/main.rt:69:1
 same-length-8 : tie.Need-same-length-8 Inv-loop μ-loop
-same-length-8 c = ?
+same-length-8 c = search needs
 
--- src/main.rt:69:1
 same-length-9 : tie.Need-same-length-9 Inv-loop μ-loop
-same-length-9 c = ?
+same-length-9 c = search needs
 
--- src/main.rt:69:1
 same-length-10 : tie.Need-same-length-10 Inv-loop μ-loop
-same-length-10 c = ?
+same-length-10 c = search needs
 
--- src/main.rt:69:1
 returns-2 : tie.Need-returns-2 Inv-loop μ-loop
-returns-2 c = ?
+returns-2 c = search needs
 
 pub run-spec : {M : Type 1} → statement M
 run-spec =
