@@ -10,13 +10,14 @@ use borrow.Author.Tests.{ltb-false, le-ltb}
 use lib.Dec.{eqb, ltb}
 use lib.ListN.{List·getD-append, length, getD, drop, length-append, length-drop}
 use lib.Seq.{length-take-le}
+use Rattle.schedule.specs.declared.ListEntry.{ListEntry}
 use Rattle.schedule.specs.declared.Entry.{Entry}
 use Rattle.schedule.specs.declared.Entry.the-variants.{Setup, Start, Step, Death, List, Bad, Cut}
 use Rattle.schedule.specs.Numbers.{le2, le4, le8}
-use Rattle.schedule.specs.Format.{rightLength, lacksCount, bodyOf, wholeOf, headedOf, entryOf, isWhole, isList, restOf, ownersEnd, ownersOf}
+use Rattle.schedule.specs.Format.{rightLength, lacksCount, bodyOf, wholeOf, headedOf, entryOf, isWhole, isList, restOf, ownersEnd, ownersOf, firstOwners}
 use Rattle.schedule.specs.Written.{written, InWidth, Bytes}
 use Rattle.schedule.proofs.Laws.{no, Whole, whole, list-fits}
-use Rattle.schedule.proofs.Written.{read-written, rest-written, written-read}
+use Rattle.schedule.proofs.Written.{read-written, rest-written, owners-written, written-read}
 
 written-append : (e : Entry) (owners r t : list.List ℕ) → isWhole e ≡ true → written e owners r ++ t ≡ written e owners (r ++ t)
 written-append (Setup e) owners r t w = refl
@@ -57,15 +58,18 @@ module _ (s : list.List ℕ) (bytes : Bytes s) (w : isWhole (entryOf s) ≡ true
   in-width : InWidth (entryOf s) (ownersOf s)
   in-width = width-by _ _ _ _ refl refl refl refl
 
+  longer : (t : list.List ℕ) → s ++ t ≡ written (entryOf s) (ownersOf s) (restOf s ++ t)
+  longer t = ap (λ (z : list.List ℕ). z ++ t) (sym (written-read s bytes w)) ∙ written-append (entryOf s) (ownersOf s) (restOf s) t w
+
   pub whole-stays : (t : list.List ℕ) → entryOf (s ++ t) ≡ entryOf s
-  whole-stays t =
-      ap entryOf (ap (λ (z : list.List ℕ). z ++ t) (sym (written-read s bytes w)) ∙ written-append (entryOf s) (ownersOf s) (restOf s) t w)
-      ∙ read-written (entryOf s) (ownersOf s) (restOf s ++ t) w in-width
+  whole-stays t = ap entryOf (longer t) ∙ read-written (entryOf s) (ownersOf s) (restOf s ++ t) w in-width
 
   pub rest-grows : (t : list.List ℕ) → restOf (s ++ t) ≡ restOf s ++ t
-  rest-grows t =
-      ap restOf (ap (λ (z : list.List ℕ). z ++ t) (sym (written-read s bytes w)) ∙ written-append (entryOf s) (ownersOf s) (restOf s) t w)
-      ∙ rest-written (entryOf s) (ownersOf s) (restOf s ++ t) w in-width
+  rest-grows t = ap restOf (longer t) ∙ rest-written (entryOf s) (ownersOf s) (restOf s ++ t) w in-width
+
+  pub owners-stay : (e : ListEntry) → entryOf s ≡ List e → (t : list.List ℕ) → firstOwners (s ++ t) ≡ firstOwners s
+  unfolding firstOwners
+  owners-stay e is t = simp (ap ownersOf (longer t ∙ ap (λ (x : Entry). written x (ownersOf s) (restOf s ++ t)) is) ∙ owners-written e (ownersOf s) (restOf s ++ t) (rw is at in-width))
 
 -- ---- what is no entry
 abbrev pub isBad : Entry → Bool
@@ -99,8 +103,8 @@ unfolding wholeOf bodyOf
 whole-good s len kind = good (ltb (length s) (2 + len)) (eqb kind 1) (eqb kind 2) (eqb kind 3) (eqb kind 4) (Setup _) (Start _) (Step _) (Death _) (List _) refl refl refl refl refl
 
 module _ (s t : list.List ℕ) where
-  longer : (i : ℕ) → i < length s → getD (s ++ t) i 0 ≡ getD s i 0
-  longer i h = List·getD-append s t 0 i h
+  same-byte : (i : ℕ) → i < length s → getD (s ++ t) i 0 ≡ getD s i 0
+  same-byte i h = List·getD-append s t 0 i h
 
   -- the sixth byte is looked at for a list alone, and then it is there
   count-same : (len : ℕ) (b : Bool) → eqb (le2 s 2) 5 ≡ b → lacksCount (le2 s 2) (length s) ≡ false
@@ -109,7 +113,7 @@ module _ (s t : list.List ℕ) where
   count-same len true p l =
       let h : ltb (length s) 6 ≡ false = rw p at l in
       let g : 6 ≤ length s = ltb-false _ _ h in
-      (simp (longer 5 g), simp (p, le-ltb (length (s ++ t)) 6 (omega (arith, length-append s t, g))))
+      (simp (same-byte 5 g), simp (p, le-ltb (length (s ++ t)) 6 (omega (arith, length-append s t, g))))
   count-same len false p l = (simp p, simp p)
 
   pub bad-stays : isBad (entryOf s) ≡ true → entryOf (s ++ t) ≡ Bad
@@ -120,8 +124,8 @@ module _ (s t : list.List ℕ) where
       let c = wrong (rightLength (le2 s 2) (le2 s 0) (getD s 5 0)) (wholeOf s (le2 s 0) (le2 s 2)) (whole-good s (le2 s 0) (le2 s 2)) (b .1) in
       let g : 4 ≤ length s = ltb-false _ _ (a .0) in
       let d = count-same (le2 s 0) _ refl (b .0) in
-      let e0 = longer 0 (omega (arith, g)) in
-      let e1 = longer 1 (omega (arith, g)) in
-      let e2 = longer 2 (omega (arith, g)) in
-      let e3 = longer 3 (omega (arith, g)) in
+      let e0 = same-byte 0 (omega (arith, g)) in
+      let e1 = same-byte 1 (omega (arith, g)) in
+      let e2 = same-byte 2 (omega (arith, g)) in
+      let e3 = same-byte 3 (omega (arith, g)) in
       simp (e0, e1, e2, e3, le-ltb (length (s ++ t)) 4 (omega (arith, length-append s t, g)), d .1, d .0, c)
