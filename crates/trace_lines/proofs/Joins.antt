@@ -69,12 +69,12 @@ turn-whole Cut t = no t
 
 -- by the entry and what it brings
 abbrev workedBy : Scene → Entry → OwnerList → Worked AnyShared
-workedBy s e o = anyWorkOf (s .lent) (work.Turn (turnOf e)) o (s .shared) (fetchedAt (turnOf e .who .0) (s .held))
+workedBy s e o = anyWorkOf (s .lent) (work.Turn (turnOf e)) o (s .shared) (fetchedAt (s .lent) (turnOf e .who .0) (s .held))
 
 abbrev sceneBy : Scene → Entry → OwnerList → Scene
 sceneBy s e o =
     let left = leftBy (s .counts) (workedBy s e o) in
-    record { shared = left .shared; counts = left .counts; lent = s .lent; held = storedAt (turnOf e .who .0) (left .thread) (s .held) }
+    record { shared = left .shared; counts = left .counts; lent = s .lent; held = storedAt (s .lent) (turnOf e .who .0) (left .thread) (s .held) }
 
 abbrev toldBy : Scene → Entry → OwnerList → Text
 toldBy s e o = toldText (s .counts .entries) (turnOf e) (workedBy s e o .report)

@@ -1,3 +1,4 @@
 pub mod Parts
 pub mod Turning
 pub mod Rests
+pub mod Docks

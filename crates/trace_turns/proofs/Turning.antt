@@ -17,7 +17,7 @@ use Rattle.trace_text.specs.Lines.{Text}
 use Rattle.trace_text.proofs.Laying.{then, laid-none, laid-as, laid-length}
 use Rattle.trace_turns.specs.declared.moves.Counts.{Counts}
 use Rattle.trace_turns.specs.declared.runs.Made.{Made}
-use Rattle.trace_turns.specs.Scenes.{Scene, sceneOf, isTurn, placeAt, beyond, fetchedAt, storedAt, readIn, sceneAfter, toldIn, Left, movedOf, toldOf}
+use Rattle.trace_turns.specs.Scenes.{Scene, sceneOf, isTurn, placeAt, seatsOf, beyond, fetchedAt, storedAt, readIn, sceneAfter, toldIn, Left, movedOf, toldOf}
 use Rattle.trace_turns.specs.Went.{Went, stopped, behind, lacksRoom, goesOn, went, wentOf, MadeAs}
 
 pub either : {A B C : Type 0} → A ⊎ B → (A → C) → (B → C) → C
@@ -107,7 +107,7 @@ module _ (s₀ : Scene) (bytes out₀ : List ℕ) where
 
 -- the turn that the loop makes is the scene's
 module _ (s : Scene) (b : List ℕ) (t : Record) (is : t ≡ readIn s b) where
-  pub scene-made : (m : Left) (held : List Record) → m ≡ movedOf (s .counts) (s .lent) (s .shared) t b → held ≡ storedAt (placeAt b) (m .thread) (s .held)
+  pub scene-made : (m : Left) (held : List Record) → m ≡ movedOf (s .counts) (s .lent) (s .shared) t b → held ≡ storedAt (s .lent) (placeAt b) (m .thread) (s .held)
       → record { shared = m .shared; counts = m .counts; lent = s .lent; held = held } ≡ sceneAfter s b
   unfolding sceneAfter
   scene-made m held e h = rw (h, e, is) refl
@@ -116,16 +116,16 @@ module _ (s : Scene) (b : List ℕ) (t : Record) (is : t ≡ readIn s b) where
   unfolding toldIn
   told-made out out′ at p l = laid-as _ _ _ _ _ _ (ap (λ (u : Record). toldOf (s .counts) (s .lent) (s .shared) u b) is) l
 
--- below 16 the record is read and stored, beyond them neither
-module _ (place p : ℕ) (held : List Record) (is : place ≡ p) where
-  pub stored-there : (t : Record) → place < 16 → set held place t ≡ storedAt p t held
-  stored-there t h = rw (sym is) (simp (lt-ltb place 16 h))
+-- a record that is lent is read and stored, another neither
+module _ (lent seats place p : ℕ) (held : List Record) (sits : seats ≡ seatsOf lent) (is : place ≡ p) where
+  pub stored-there : (t : Record) → place < seats → set held place t ≡ storedAt lent p t held
+  stored-there t h = rw (sym is, sym sits) (simp (lt-ltb place seats h))
 
-  pub stored-nowhere : (t : Record) → 16 ≤ place → held ≡ storedAt p t held
-  stored-nowhere t h = rw (sym is) (simp (le-ltb place 16 h))
+  pub stored-nowhere : (t : Record) → seats ≤ place → held ≡ storedAt lent p t held
+  stored-nowhere t h = rw (sym is, sym sits) (simp (le-ltb place seats h))
 
-  pub fetched-there : place < 16 → getD held place beyond ≡ fetchedAt p held
-  fetched-there h = rw (sym is) (simp (lt-ltb place 16 h))
+  pub fetched-there : place < seats → getD held place beyond ≡ fetchedAt lent p held
+  fetched-there h = rw (sym is, sym sits) (simp (lt-ltb place seats h))
 
-  pub fetched-nowhere : (nobody : Record) → nobody ≡ idleRecord emptyList → 16 ≤ place → nobody ≡ fetchedAt p held
-  fetched-nowhere nobody e h = rw (sym is) (simp (le-ltb place 16 h) e)
+  pub fetched-nowhere : (nobody : Record) → nobody ≡ idleRecord emptyList → seats ≤ place → nobody ≡ fetchedAt lent p held
+  fetched-nowhere nobody e h = rw (sym is, sym sits) (simp (le-ltb place seats h) e)

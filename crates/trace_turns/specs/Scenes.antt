@@ -120,27 +120,31 @@ toldOf c records s t bytes = toldText (c .entries) (turnAt bytes) (workedOf reco
 abbrev pub movedLeft : Moved → list.List ℕ → list.List ℕ → list.List ℕ → Left
 movedLeft r slots custody cells = record { thread = r .thread; shared = anyShared (r .set) slots custody cells; counts = r .counts }
 
--- the scene's own: the record is read from the 16 that are held and stored back; beyond them an idle one stands in and none is stored
+-- the scene's own: the record is read from those that are lent, of the 16 that are held, and stored back; where there is none, an idle one stands in
+-- and none is stored
+abbrev pub seatsOf : ℕ → ℕ
+seatsOf lent = cond (ltb lent 16) lent 16
+
 -- (what a list reads as beyond its own end, `beyond`, is never read where it has 16)
 abbrev pub beyond : Record
 beyond = liveRecord idleCall (record { count = 0; owners = list.[] })
 
-abbrev pub fetchedAt : ℕ → list.List Record → Record
-fetchedAt place held = cond (ltb place 16) (getD held place beyond) (idleRecord emptyList)
+abbrev pub fetchedAt : ℕ → ℕ → list.List Record → Record
+fetchedAt lent place held = cond (ltb place (seatsOf lent)) (getD held place beyond) (idleRecord emptyList)
 
-abbrev pub storedAt : ℕ → Record → list.List Record → list.List Record
-storedAt place t held = cond (ltb place 16) (set held place t) held
+abbrev pub storedAt : ℕ → ℕ → Record → list.List Record → list.List Record
+storedAt lent place t held = cond (ltb place (seatsOf lent)) (set held place t) held
 
 abbrev pub placeAt : list.List ℕ → ℕ
 placeAt bytes = turnAt bytes .who .0
 
 abbrev pub readIn : Scene → list.List ℕ → Record
-readIn s bytes = fetchedAt (placeAt bytes) (s .held)
+readIn s bytes = fetchedAt (s .lent) (placeAt bytes) (s .held)
 
 unfoldable pub sceneAfter : Scene → list.List ℕ → Scene
 sceneAfter s bytes =
     let m = movedOf (s .counts) (s .lent) (s .shared) (readIn s bytes) bytes in
-    record { shared = m .shared; counts = m .counts; lent = s .lent; held = storedAt (placeAt bytes) (m .thread) (s .held) }
+    record { shared = m .shared; counts = m .counts; lent = s .lent; held = storedAt (s .lent) (placeAt bytes) (m .thread) (s .held) }
 
 unfoldable pub toldIn : Scene → list.List ℕ → Text
 toldIn s bytes = toldOf (s .counts) (s .lent) (s .shared) (readIn s bytes) bytes

@@ -10,7 +10,7 @@ use thread_records::idle_record;
 ghost use Prim.Native.Nat.{_≤_};
 ghost use mathlib.Core.Path.{_≡_};
 ghost use lib.ListN.{length};
-ghost use Rattle.trace_turns.specs.Scenes.{sceneOf};
+ghost use Rattle.trace_turns.specs.Scenes.{seatsOf, sceneOf};
 ghost use Rattle.trace_turns.specs.Went.{lacksRoom, goesOn, wentOf, MadeAs};
 
 // What a call asks of the room that it is lent: two lines.
@@ -44,6 +44,17 @@ fn goes_on(bytes: &[u8], room: usize, written: usize) -> bool
     is_turn(read_entry(bytes))
 }
 
+// How many records are lent of the 16 that are held.
+fn seats_of(records: u8) -> usize
+    ensures { λ r. ⌜ r ≡ seatsOf records ⌝ }
+    ensures { λ r. ⌜ r ≤ 16 ⌝ }
+{
+    if records < 16 {
+        return records as usize;
+    }
+    16
+}
+
 // The turns of the entries at the front, their lines written from the beginning of the buffer.
 pub fn make_turns(
     running: Running,
@@ -59,6 +70,7 @@ pub fn make_turns(
     let mut set = running.set;
     let mut counts = running.counts;
     let mut table = running.table;
+    let seats = seats_of(running.records);
     let nobody = idle_record(empty_list());
     let mut left = bytes;
     let mut written: usize = 0;
@@ -66,14 +78,14 @@ pub fn make_turns(
     while turns > 0 && goes_on(left, out.len(), written) {
         let place = place_at(left);
         let mut thread = nobody;
-        if place < 16 {
+        if place < seats {
             thread = table[place];
         }
         let moved = make_turn(
             set, counts, thread, records, left, out, written, slots, custody, cells,
         );
         let after = moved.thread;
-        if place < 16 {
+        if place < seats {
             table[place] = after;
         }
         set = moved.set;
