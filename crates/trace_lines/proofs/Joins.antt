@@ -146,7 +146,7 @@ isOver stage.Fresh = false
 isOver stage.Running = false
 isOver stage.Over = true
 
-abbrev isRunning : Stage → Bool
+abbrev pub isRunning : Stage → Bool
 isRunning stage.Fresh = false
 isRunning stage.Running = true
 isRunning stage.Over = false

@@ -1,3 +1,4 @@
 pub mod Begins
 pub mod Calls
 pub mod Joins
+pub mod Seats
