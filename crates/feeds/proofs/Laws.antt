@@ -1,6 +1,6 @@
 -- What is unread of a buffer, and what stays of it where more comes. Assumes nothing.
 use Prim.Native.Nat.{ℕ, _+_, _-_, _≤_}
-use mathlib.Core.Path.{_≡_, refl, sym, ap, _∙_}
+use mathlib.Core.Path.{_≡_, refl, ap, _∙_}
 use mathlib.Core.Bool.{Bool, true, false, cond}
 use mathlib.Core.List.{List, [], _++_}
 use native.Mathlib.Omega.{arith}
@@ -80,6 +80,6 @@ module _ (input : List ℕ) (f : Feed) where
         joined = (
           take count (drop kept input′),
           all-unread input′ (kept + count) last (omega (arith, m, li)) ∙ take-add kept count input′
-          ∙ ap (λ (z : List ℕ). z ++ take count (drop kept input′)) (e ∙ ap (take kept) em ∙ ap (λ (k : ℕ). take k (keptIn input (f .from) (f .filled))) ek ∙ kept-unread),
+              ∙ ap (λ (z : List ℕ). z ++ take count (drop kept input′)) (e ∙ ap (take kept) em ∙ ap (λ (k : ℕ). take k (keptIn input (f .from) (f .filled))) ek ∙ kept-unread),
         );
       }

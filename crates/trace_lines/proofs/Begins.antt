@@ -34,8 +34,8 @@ abbrev pub Begins : Opened → Begun → List ℕ → List ℕ → List ℕ → 
 Begins o r out out′ slots custody cells = (BegunAs o r slots custody cells) × (LaidAs out 0 (o .text) out′ (r .written))
 
 module _ (set : AnySet) (e : SetupEntry) (s : AnyShared) (t : Record) (brought : OwnerList) (w : AnyWorked) (slots custody cells : List ℕ)
-  (idle : t ≡ idleRecord emptyList) (none : brought ≡ emptyList)
-  (done : anyLeft w slots custody cells ≡ anyWorkOf (e .records) (work.Setup (e .capacity)) brought (anyShared set (s .slots) (s .custody) (s .cells)) t) where
+    (idle : t ≡ idleRecord emptyList) (none : brought ≡ emptyList)
+    (done : anyLeft w slots custody cells ≡ anyWorkOf (e .records) (work.Setup (e .capacity)) brought (anyShared set (s .slots) (s .custody) (s .cells)) t) where
   ready : anyLeft w slots custody cells ≡ readyOf set e s
   unfolding readyOf
   ready = done ∙ rw (idle, none) refl

@@ -1,5 +1,5 @@
 -- One call made of its parts: the setup, or the turns and what ends a trace. Assumes nothing.
-use Prim.Native.Nat.{ℕ, _+_, _-_, _≤_}
+use Prim.Native.Nat.{ℕ, _-_}
 use mathlib.Core.Path.{_≡_, refl, sym, ap, _∙_}
 use mathlib.Core.Bool.{Bool, true, false}
 use mathlib.Core.List as list
@@ -22,11 +22,10 @@ use Rattle.trace_lines.specs.declared.Wants.{Wants}
 use Rattle.trace_lines.specs.declared.Wants.the-variants as wants
 use Rattle.trace_lines.specs.declared.Piece.{Piece}
 use Rattle.trace_lines.specs.declared.setups.Begun.{Begun}
-use Rattle.trace_lines.specs.declared.openings.Opening.{Opening}
 use Rattle.trace_lines.specs.declared.openings.Opening.the-variants as opening
 use Rattle.trace_lines.specs.declared.closings.Closing.{Closing}
 use Rattle.trace_lines.specs.Setups.{openedOf}
-use Rattle.trace_lines.specs.Pieces.{Pieced, piece, closingOf, closingText, stageClosed, wantsClosed, closedBy, runningOf, openingOf, wantsIn, freshOf, PieceAs}
+use Rattle.trace_lines.specs.Pieces.{piece, closingOf, closingText, stageClosed, wantsClosed, runningOf, openingOf, wantsIn, freshOf, PieceAs}
 use Rattle.trace_lines.proofs.Begins.{Begins}
 
 abbrev pub pieceWith : Stage → Running → ℕ → ℕ → Wants → Piece
@@ -60,7 +59,7 @@ module _ (running : Running) (bytes out : list.List ℕ) (last : Bool) (slots cu
 
 -- ---- turns
 module _ (s : Scene) (bytes out : list.List ℕ) (last : Bool) (made : Made) (out₁ slots custody cells : list.List ℕ) (m : MadeAs (wentOf (length out) s bytes) bytes out made out₁ slots custody cells)
-  (kept : length out₁ ≡ length out) (r : Piece) where
+    (kept : length out₁ ≡ length out) (r : Piece) where
   abbrev W : Went
   W = wentOf (length out) s bytes
 

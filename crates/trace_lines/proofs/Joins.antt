@@ -6,9 +6,7 @@ use mathlib.Core.Bool.{Bool, true, false, cond}
 use mathlib.Core.List as list
 use mathlib.Core.List.{[], _∷_, _++_, append-assoc, append-nil}
 use native.Mathlib.Omega.{arith}
-use borrow.Author.Tests.{eqb-true}
-use lib.Dec.{eqb}
-use lib.ListN.{length, getD, drop}
+use lib.ListN.{length, drop}
 use lib.Seq.{getD-drop}
 use Rattle.thread_records.specs.declared.OwnerList.{OwnerList}
 use Rattle.dock.specs.declared.Work.the-variants as work
@@ -34,7 +32,7 @@ use Rattle.trace_lines.specs.declared.openings.Opening.{Opening}
 use Rattle.trace_lines.specs.declared.openings.Opening.the-variants as opening
 use Rattle.trace_lines.specs.declared.closings.Closing.{Closing}
 use Rattle.trace_lines.specs.declared.closings.Closing.the-variants as closing
-use Rattle.trace_lines.specs.Setups.{Opened, openedOf}
+use Rattle.trace_lines.specs.Setups.{openedOf}
 use Rattle.trace_lines.specs.Pieces.{Pieced, piece, closingOf, closingText, closedBy, runningOf, openingOf, openedAt, freshOf, pieceOf}
 use Rattle.trace_lines.specs.Traces.{Runs, turns, ends, Traces, begins, lacks, runs, rests}
 use Rattle.trace_lines.specs.Joined.{Joined, over, more, last}

@@ -1,7 +1,7 @@
 -- The trace of a schedule, whatever pieces it comes in: the setup's line, each turn's lines, and what ends it.
 use Prim.Native.Nat.{ℕ}
 use mathlib.Core.Path.{_≡_}
-use mathlib.Core.Bool.{Bool, true, false}
+use mathlib.Core.Bool.{true, false}
 use mathlib.Core.List as list
 use mathlib.Core.List.{[], _++_}
 use lib.ListN.{length}
@@ -13,7 +13,7 @@ use Rattle.trace_turns.specs.Scenes.{Scene, isTurn, sceneAfter, toldIn}
 use Rattle.trace_lines.specs.declared.Stage.{Stage}
 use Rattle.trace_lines.specs.declared.Stage.the-variants as stage
 use Rattle.trace_lines.specs.declared.openings.Opening.the-variants as opening
-use Rattle.trace_lines.specs.Setups.{Opened, openedOf}
+use Rattle.trace_lines.specs.Setups.{openedOf}
 use Rattle.trace_lines.specs.Pieces.{closingOf, closingText, openingOf}
 
 -- from a scene on: turns while the entry at the front is one; then the end, where no bytes are left, or a bad entry's line and the end

@@ -90,7 +90,13 @@ fn open(
             let begun = begin(running, entry, out, slots, custody, cells);
             let stage = begun.stage;
             let after = begun.running;
-            piece_of(stage, after, entry_size(bytes), begun.written, wants_in(stage))
+            piece_of(
+                stage,
+                after,
+                entry_size(bytes),
+                begun.written,
+                wants_in(stage),
+            )
         }
         Opening::Waits => piece_of(Stage::Fresh, running, 0, 0, Wants::Bytes),
         Opening::Bad => {
@@ -124,7 +130,13 @@ fn run(
     let set = after.set;
     let counts = after.counts;
     let end = put_closing(out, written, set, counts, closing);
-    piece_of(stage_closed(closing), after, used, end, wants_closed(closing))
+    piece_of(
+        stage_closed(closing),
+        after,
+        used,
+        end,
+        wants_closed(closing),
+    )
 }
 
 // The lines of a piece of a schedule, written from the beginning of `out`. `last`: no bytes come behind these.

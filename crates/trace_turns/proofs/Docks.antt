@@ -5,23 +5,23 @@ use native.Mathlib.Nat.{not-suc-le-zero, le-of-suc-le-suc}
 use mathlib.Core.Path.{_≡_, refl, sym, ap, _∙_}
 use mathlib.Core.Bool.{Bool, true, false, cond}
 use mathlib.Core.List as list
-use mathlib.Core.List.{[], _∷_, _++_}
+use mathlib.Core.List.{[], _∷_}
 use native.Mathlib.Omega.{arith}
-use borrow.Author.Tests.{ltb-true, ltb-false, lt-ltb, le-ltb}
+use borrow.Author.Tests.{ltb-true, ltb-false}
 use lib.Dec.{ltb}
-use lib.ListN.{length, getD, set, take, drop, length-set, take-append-drop, List·getD-eq-default}
+use lib.ListN.{length, getD, set, take, length-set, List·getD-eq-default}
 use lib.Seq.{length-take-le, take-set-lt, set-out}
 use Rattle.thread_records.specs.declared.OwnerList.{OwnerList}
 use Rattle.thread_records.specs.declared.Record.{Record}
 use Rattle.thread_records.specs.Records.{emptyList, idleRecord}
-use Rattle.turns.specs.Docks.{Dock, Turned, Table, turn, docked}
+use Rattle.turns.specs.Docks.{Dock, turn, docked}
 use Rattle.dock.specs.declared.Turn.{Turn}
 use Rattle.dock.specs.declared.Work.the-variants as work
 use Rattle.dock.specs.Works.{Worked, table, workedTable}
 use Rattle.dock.proofs.Works.{lent-read, work-turn}
 use Rattle.any_dock.specs.declared.AnySet.{AnySet}
 use Rattle.any_dock.specs.declared.AnySet.the-variants.{Plain, Robust}
-use Rattle.any_dock.specs.Any.{AnyShared, workOn, worksOn, anyWorkOf, dockOf, dockOn}
+use Rattle.any_dock.specs.Any.{AnyShared, workOn, dockOf}
 use Rattle.any_dock.proofs.Laws.{any-works, any-dock}
 use Rattle.schedule.specs.Format.{entryOf}
 use Rattle.trace_turns.specs.Scenes.{Scene, broughtBy, turnAt, placeAt, seatsOf, beyond, fetchedAt, storedAt, readIn, workedOf, sceneAfter}

@@ -18,8 +18,8 @@ use Rattle.trace_turns.specs.Told.{toldText}
 use Rattle.trace_turns.specs.Scenes.{turnOf, broughtBy, countedWith, turnAt, workedOf, leftBy, movedOf, toldOf, movedLeft}
 
 module _ (c : Counts) (records : ℕ) (s : AnyShared) (t : Record) (b : list.List ℕ) (entry : Entry) (turn : Turn) (brought : OwnerList) (w : AnyWorked) (slots custody cells : list.List ℕ)
-  (read : entry ≡ entryOf b) (is : turn ≡ turnOf entry) (brings : brought ≡ broughtBy entry b)
-  (done : anyLeft w slots custody cells ≡ anyWorkOf records (work.Turn turn) brought s t) where
+    (read : entry ≡ entryOf b) (is : turn ≡ turnOf entry) (brings : brought ≡ broughtBy entry b)
+    (done : anyLeft w slots custody cells ≡ anyWorkOf records (work.Turn turn) brought s t) where
   worked : anyLeft w slots custody cells ≡ workedOf records s t b
   unfolding workedOf
   worked = done ∙ rw (brings, is, read) refl

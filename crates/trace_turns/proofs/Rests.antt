@@ -8,7 +8,7 @@ use lib.ListN.{length, take, drop, take-append-drop, length-append}
 use lib.Seq.{drop-at}
 use Rattle.schedule.specs.Format.{restOf, sizeOf}
 use Rattle.trace_turns.specs.Scenes.{Scene, sceneAfter, toldIn}
-use Rattle.trace_turns.specs.Went.{Went, stopped, behind, goesOn, went}
+use Rattle.trace_turns.specs.Went.{stopped, behind, goesOn, went}
 
 -- one list at the end of another
 abbrev pub EndsWith : List ℕ → List ℕ → Type 0

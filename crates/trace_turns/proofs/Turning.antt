@@ -9,13 +9,11 @@ use borrow.Author.Tests.{ltb-false, lt-ltb, le-ltb}
 use lib.ListN.{length, getD, set, length-drop}
 use Rattle.thread_records.specs.declared.Record.{Record}
 use Rattle.thread_records.specs.Records.{emptyList, idleRecord}
-use Rattle.any_dock.specs.Any.{AnyShared}
 use Rattle.schedule.specs.Format.{entryOf, restOf, sizeOf}
 use Rattle.schedule.proofs.Laws.{no}
 use Rattle.trace_text.specs.Laid.{LaidAs}
 use Rattle.trace_text.specs.Lines.{Text}
 use Rattle.trace_text.proofs.Laying.{then, laid-none, laid-as, laid-length}
-use Rattle.trace_turns.specs.declared.moves.Counts.{Counts}
 use Rattle.trace_turns.specs.declared.runs.Made.{Made}
 use Rattle.trace_turns.specs.Scenes.{Scene, sceneOf, isTurn, placeAt, seatsOf, beyond, fetchedAt, storedAt, readIn, sceneAfter, toldIn, Left, movedOf, toldOf}
 use Rattle.trace_turns.specs.Went.{Went, stopped, behind, lacksRoom, goesOn, went, wentOf, MadeAs}

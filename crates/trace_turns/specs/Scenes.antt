@@ -17,7 +17,6 @@ use Rattle.turns.specs.declared.Operation.the-variants as operation
 use Rattle.dock.specs.declared.Turn.{Turn}
 use Rattle.dock.specs.declared.Work.the-variants as work
 use Rattle.dock.specs.Works.{Worked}
-use Rattle.any_dock.specs.declared.AnySet.{AnySet}
 use Rattle.any_dock.specs.Any.{AnyShared, anyShared, anyWorkOf}
 use Rattle.schedule.specs.declared.Entry.{Entry}
 use Rattle.schedule.specs.declared.Entry.the-variants.{Setup, Start, Step, Death, List, Bad, Cut}

@@ -82,7 +82,16 @@ pub fn make_turns(
             thread = table[place];
         }
         let moved = make_turn(
-            set, counts, thread, records, left, out, written, slots, custody, cells,
+            set,
+            counts,
+            thread,
+            records,
+            left,
+            out,
+            written,
+            slots,
+            custody,
+            cells,
         );
         let after = moved.thread;
         if place < seats {

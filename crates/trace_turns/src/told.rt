@@ -37,13 +37,7 @@ fn event_of(operation: Operation, progress: Progress) -> Event
     }
 }
 
-fn put_event(
-    out: &mut [u8],
-    at: usize,
-    number: u64,
-    who: RecordNumber,
-    event: Event,
-) -> usize
+fn put_event(out: &mut [u8], at: usize, number: u64, who: RecordNumber, event: Event) -> usize
     requires { ⌜ at + 128 ≤ length (now out) ⌝ }
     ensures { λ r. ⌜ LaidAs (now (out .entry)) at (entryLine number who event) (now (out .exit)) r ⌝ }
     ensures { λ r. ⌜ r ≤ at + 128 ⌝ }
@@ -69,13 +63,7 @@ fn put_noted(out: &mut [u8], at: usize, number: u64, who: RecordNumber, noted: N
 }
 
 // All that is told of the turn of an entry with this number.
-pub(crate) fn put_told(
-    out: &mut [u8],
-    at: usize,
-    number: u64,
-    turn: Turn,
-    report: Report,
-) -> usize
+pub(crate) fn put_told(out: &mut [u8], at: usize, number: u64, turn: Turn, report: Report) -> usize
     requires { ⌜ at + 256 ≤ length (now out) ⌝ }
     ensures { λ r. ⌜ LaidAs (now (out .entry)) at (toldText number turn report) (now (out .exit)) r ⌝ }
     ensures { λ r. ⌜ r ≤ at + 256 ⌝ }

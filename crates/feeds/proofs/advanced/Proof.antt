@@ -1,29 +1,20 @@
-use borrow.Author.Tests.{le-ltb}
-use borrow.Author.Tests.{le-leb}
-use borrow.Author.Tests.{lt-leb}
-use borrow.Author.Tests.{lt-ltb}
+use borrow.Author.Tests.{le-ltb, lt-ltb}
 use Rattle.feeds.specs.Feeds.{advancedBy}
 use borrow.Author.Needs.{needs}
 use Rattle.feeds.proofs.advanced.Statement.{statement}
 use Rattle.feeds.proofs.advanced.Tie as tie
-use Rattle.feeds.proofs.advanced.Reads as reads
-use Rattle.feeds.proofs.advanced.Lts as lts
 
--- src/lib.rt:49:9
 returns : tie.Need-returns
 unfolding advancedBy
 returns c = simp (lt-ltb _ _ (c .if1 .taken))
 
--- src/lib.rt:52:9
 returns-2 : tie.Need-returns-2
 unfolding advancedBy
 returns-2 c = simp (lt-ltb _ _ (c .if2 .taken), le-ltb _ _ (c .before .before .if1 .left))
 
--- src/lib.rt:55:15
 add-t4 : tie.Need-add-t4
 add-t4 c = search needs
 
--- src/lib.rt:45:1
 returns-3 : tie.Need-returns-3
 unfolding advancedBy
 returns-3 c = simp (le-ltb _ _ (c .before .if2 .left), le-ltb _ _ (c .before .before .before .if1 .left))

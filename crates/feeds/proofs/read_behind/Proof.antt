@@ -1,38 +1,26 @@
 use Rattle.feeds.proofs.Laws.{front-kept, behind-within}
-
 use borrow.Author.Needs.{needs}
 use Rattle.feeds.proofs.read_behind.Statement.{statement}
 use Rattle.feeds.proofs.read_behind.Tie as tie
-use Rattle.feeds.proofs.read_behind.Reads as reads
-use Rattle.feeds.proofs.read_behind.Lts as lts
-use Rattle.io.proofs.count.Reads as count-reads
-use Rattle.libc.proofs.read.Reads as read-reads
 
--- src/lib.rt:68:16
 sub-part : tie.Need-sub-part
 sub-part c = search needs
 
--- src/lib.rt:68:16
 part-part-start : tie.Need-part-part-start
 part-part-start c = search needs
 
--- src/lib.rt:68:16
 part-part-end : tie.Need-part-part-end
 part-part-end c = search needs
 
--- src/lib.rt:69:9
 read-requires : tie.Need-read-requires
 read-requires c κs = search needs
 
--- src/lib.rt:70:5
 count-requires : tie.Need-count-requires
 count-requires c κs = search needs
 
--- src/lib.rt:63:1
 same-length : tie.Need-same-length
 same-length c = search needs
 
--- src/lib.rt:63:1
 returns : tie.Need-returns
 returns c = (behind-within _ _ (c .before .before .before .before .before .before .before .before .before .before .args .input .now) (c .before .before .before .before .before .before .read .last .1 .0) (c .before .before .before .before .before .before .before .before .before .before .pre) (c .before .before .before .before .before .before .read .kept .1 .0) (c .before .before .count .ensures .0 .0), front-kept _ (c .before .before .before .before .before .before .before .before .before .before .args .input .now) _ (c .before .before .before .before .before .before .before .before .before .before .pre))
 

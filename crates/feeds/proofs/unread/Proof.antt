@@ -3,43 +3,31 @@ use mathlib.Core.Path.{sym, _∙_}
 use borrow.Author.Needs.{needs}
 use Rattle.feeds.proofs.unread.Statement.{statement}
 use Rattle.feeds.proofs.unread.Tie as tie
-use Rattle.feeds.proofs.unread.Reads as reads
-use Rattle.feeds.proofs.unread.Lts as lts
-use Rattle.feeds.proofs.is_within.Reads as is-within-reads
 
--- src/lib.rt:40:8
 is-within-requires : tie.Need-is-within-requires
 is-within-requires c κs = search needs
 
--- src/lib.rt:41:16
 sub-result : tie.Need-sub-result
 sub-result c = within _ _ (sym (c .before .is-within .ensures) ∙ c .if1 .taken) .1
 
--- src/lib.rt:41:16
 part-result-start : tie.Need-part-result-start
 part-result-start c = within _ _ (sym (c .before .is-within .ensures) ∙ c .if1 .taken) .1
 
--- src/lib.rt:41:16
 part-result-end : tie.Need-part-result-end
 part-result-end c = within _ _ (sym (c .before .is-within .ensures) ∙ c .if1 .taken) .0
 
--- src/lib.rt:41:9
 returns : tie.Need-returns
 returns c = unread-there _ _ (sym (c .before .before .is-within .ensures) ∙ c .before .if1 .taken)
 
--- src/lib.rt:43:5
 sub-result-2 : tie.Need-sub-result-2
 sub-result-2 c = search needs
 
--- src/lib.rt:43:5
 part-result-start-2 : tie.Need-part-result-start-2
 part-result-start-2 c = search needs
 
--- src/lib.rt:43:5
 part-result-end-2 : tie.Need-part-result-end-2
 part-result-end-2 c = search needs
 
--- src/lib.rt:35:1
 returns-2 : tie.Need-returns-2
 returns-2 c = unread-nowhere _ _ (sym (c .before .before .is-within .ensures) ∙ c .before .if1 .left)
 

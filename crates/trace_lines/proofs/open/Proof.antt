@@ -9,106 +9,73 @@ use native.Mathlib.Omega.{arith}
 use borrow.Author.Needs.{needs}
 use Rattle.trace_lines.proofs.open.Statement.{statement}
 use Rattle.trace_lines.proofs.open.Tie as tie
-use Rattle.trace_lines.proofs.open.Reads as reads
-use Rattle.trace_lines.proofs.open.Lts as lts
-use Rattle.schedule.proofs.entry_size.Reads as entry-size-reads
-use Rattle.schedule.proofs.read_entry.Reads as read-entry-reads
-use Rattle.trace_lines.proofs.openings.opening_of.Reads as opening-of-reads
-use Rattle.trace_lines.proofs.openings.wants_in.Reads as wants-in-reads
-use Rattle.trace_lines.proofs.piece_of.Reads as piece-of-reads
-use Rattle.trace_lines.proofs.setups.begin.Reads as begin-reads
-use Rattle.trace_text.proofs.put_line.Reads as put-line-reads
-use Rattle.trace_turns.proofs.lacks_room.Reads as lacks-room-reads
 
--- src/lib.rt:84:8
 lacks-room-requires : tie.Need-lacks-room-requires
 lacks-room-requires c κs = search needs
 
--- src/lib.rt:85:9
 piece-of-requires : tie.Need-piece-of-requires
 piece-of-requires c κs = search needs
 
--- src/lib.rt:85:9
 returns : tie.Need-returns
 returns c = fresh-lacks _ _ _ _ _ _ _ _ (sym (c .before .before .lacks-room .ensures) ∙ c .before .if1 .taken) (c .piece-of .ensures)
 
--- src/lib.rt:87:30
 read-entry-requires : tie.Need-read-entry-requires
 read-entry-requires c κs = search needs
 
--- src/lib.rt:87:9
 opening-of-requires : tie.Need-opening-of-requires
 opening-of-requires c κs = search needs
 
--- src/lib.rt:89:24
 enum-known-opening : tie.Need-enum-known-opening
 enum-known-opening c = search needs
 
--- src/lib.rt:90:17
 begin-requires : tie.Need-begin-requires
 begin-requires c κs = omega (arith, lacking _ _ (sym (c .before .before .before .before .before .before .before .before .before .before .lacks-room .ensures) ∙ c .before .before .before .before .before .before .before .before .before .if1 .left))
 
--- src/lib.rt:93:36
 entry-size-requires : tie.Need-entry-size-requires
 entry-size-requires c κs = search needs
 
--- src/lib.rt:93:70
 wants-in-requires : tie.Need-wants-in-requires
 wants-in-requires c κs = search needs
 
--- src/lib.rt:93:13
 piece-of-requires-2 : tie.Need-piece-of-requires-2
 piece-of-requires-2 c κs = search needs
 
--- src/lib.rt:95:36
 enum-told : tie.Need-enum-told
 enum-told c = search needs
 
--- src/lib.rt:95:27
 piece-of-requires-3 : tie.Need-piece-of-requires-3
 piece-of-requires-3 c κs = search needs
 
--- src/lib.rt:97:36
 enum-told-2 : tie.Need-enum-told-2
 enum-told-2 c = search needs
 
--- src/lib.rt:97:17
 put-line-requires : tie.Need-put-line-requires
 put-line-requires c κs = search needs
 
--- src/lib.rt:98:13
 piece-of-requires-4 : tie.Need-piece-of-requires-4
 piece-of-requires-4 c κs = search needs
 
--- src/lib.rt:73:1
 same-length : tie.Need-same-length
 same-length c = search needs
 
--- src/lib.rt:73:1
 same-length-2 : tie.Need-same-length-2
 same-length-2 c = search needs
 
--- src/lib.rt:73:1
 same-length-3 : tie.Need-same-length-3
 same-length-3 c = search needs
 
--- src/lib.rt:73:1
 same-length-4 : tie.Need-same-length-4
 same-length-4 c = search needs
 
--- src/lib.rt:73:1
 returns-2 : tie.Need-returns-2
 returns-2 c = fresh-begun (c .before .before .before .before .before .before .before .before .before .before .before .before .before .before .before .before .before .before .before .before .before .before .before .before .before .before .before .before .before .args .running) _ _ _ _ _ _ _ (sym (c .before .before .before .before .before .before .before .before .before .before .before .before .before .before .before .before .before .before .before .before .before .before .before .lacks-room .ensures) ∙ c .before .before .before .before .before .before .before .before .before .before .before .before .before .before .before .before .before .before .before .before .before .before .if1 .left) _ (c .before .before .before .before .before .before .before .before .before .before .before .before .begin .result) _ _ _ _ _ _ (sym (c .before .before .before .before .before .before .before .before .before .before .before .before .before .before .before .before .before .before .before .before .opening-of .ensures ∙ ap (λ (x : Entry). openingOf x (c .before .before .before .before .before .before .before .before .before .before .before .before .before .before .before .before .before .before .before .before .before .before .before .before .before .before .before .before .before .args .last)) (c .before .before .before .before .before .before .before .before .before .before .before .before .before .before .before .before .before .before .before .before .before .read-entry .ensures)) ∙ c .before .before .before .before .before .before .before .before .before .before .before .before .before .before .before .before .before .before .opening .given .1) (c .before .before .before .before .before .before .before .before .before .before .before .before .begin .ensures) (c .before .before .entry-size .ensures .0) (c .before .wants-in .ensures) (c .piece-of2 .ensures)
 
--- src/lib.rt:73:1
 returns-3 : tie.Need-returns-3
 returns-3 c = fresh-waits _ _ _ _ _ _ _ _ (sym (c .before .before .before .before .before .before .lacks-room .ensures) ∙ c .before .before .before .before .before .if1 .left) (sym (c .before .before .before .opening-of .ensures ∙ ap (λ (x : Entry). openingOf x (c .before .before .before .before .before .before .before .before .before .before .before .before .args .last)) (c .before .before .before .before .read-entry .ensures)) ∙ c .before .enum-told .given .1) (c .piece-of3 .ensures)
 
--- src/lib.rt:73:1
 same-length-5 : tie.Need-same-length-5
 same-length-5 c = search needs
 
--- src/lib.rt:73:1
 returns-4 : tie.Need-returns-4
 returns-4 c = fresh-bad _ _ _ _ _ _ _ _ (sym (c .before .before .before .before .before .before .before .before .before .before .lacks-room .ensures) ∙ c .before .before .before .before .before .before .before .before .before .if1 .left) _ _ (sym (c .before .before .before .before .before .before .before .opening-of .ensures ∙ ap (λ (x : Entry). openingOf x (c .before .before .before .before .before .before .before .before .before .before .before .before .before .before .before .before .args .last)) (c .before .before .before .before .before .before .before .before .read-entry .ensures)) ∙ c .before .before .before .before .before .enum-told2 .given .1) (c .piece-of4 .ensures) (laid-whole _ _ _ _ Bad (omega (arith, lacking _ _ (sym (c .before .before .before .before .before .before .before .before .before .before .lacks-room .ensures) ∙ c .before .before .before .before .before .before .before .before .before .if1 .left))) (c .before .before .before .put-line .ensures))
 

@@ -1,106 +1,74 @@
 use Rattle.trace_lines.proofs.Calls.{turns-lack, turns-close}
 use Rattle.schedule.proofs.Laws.{tail-all}
 use Rattle.trace_turns.proofs.Turning.{lacking}
-use mathlib.Core.Path.{sym, ap, _∙_}
+use mathlib.Core.Path.{sym, _∙_}
 use borrow.Author.Needs.{needs}
 use Rattle.trace_lines.proofs.run.Statement.{statement}
 use Rattle.trace_lines.proofs.run.Tie as tie
-use Rattle.trace_lines.proofs.run.Reads as reads
-use Rattle.trace_lines.proofs.run.Lts as lts
-use Rattle.schedule.proofs.read_entry.Reads as read-entry-reads
-use Rattle.trace_lines.proofs.closings.closing_of.Reads as closing-of-reads
-use Rattle.trace_lines.proofs.closings.put_closing.Reads as put-closing-reads
-use Rattle.trace_lines.proofs.closings.stage_closed.Reads as stage-closed-reads
-use Rattle.trace_lines.proofs.closings.wants_closed.Reads as wants-closed-reads
-use Rattle.trace_lines.proofs.piece_of.Reads as piece-of-reads
-use Rattle.trace_turns.proofs.lacks_room.Reads as lacks-room-reads
-use Rattle.trace_turns.proofs.make_turns.Reads as make-turns-reads
 
--- src/lib.rt:115:9
 make-turns-requires : tie.Need-make-turns-requires
 make-turns-requires c κs = search needs
 
--- src/lib.rt:119:8
 lacks-room-requires : tie.Need-lacks-room-requires
 lacks-room-requires c κs = search needs
 
--- src/lib.rt:120:9
 piece-of-requires : tie.Need-piece-of-requires
 piece-of-requires c κs = search needs
 
--- src/lib.rt:120:9
 same-length : tie.Need-same-length
 same-length c = search needs
 
--- src/lib.rt:120:9
 same-length-2 : tie.Need-same-length-2
 same-length-2 c = search needs
 
--- src/lib.rt:120:9
 same-length-3 : tie.Need-same-length-3
 same-length-3 c = search needs
 
--- src/lib.rt:120:9
 same-length-4 : tie.Need-same-length-4
 same-length-4 c = search needs
 
--- src/lib.rt:120:9
 returns : tie.Need-returns
 returns c = turns-lack _ _ _ _ _ _ _ _ _ (c .before .before .before .before .before .before .before .before .before .before .before .before .make-turns .ensures) (c .before .before .before .before .before .before .before .before .before .before .before .before .make-turns .kept .1 .1 .0) _ (sym (c .before .before .lacks-room .ensures) ∙ c .before .if1 .taken) (c .piece-of .ensures)
 
--- src/lib.rt:122:16
 sub-left : tie.Need-sub-left
 sub-left c = search needs
 
--- src/lib.rt:122:16
 part-left-start : tie.Need-part-left-start
 part-left-start c = search needs
 
--- src/lib.rt:122:16
 part-left-end : tie.Need-part-left-end
 part-left-end c = search needs
 
--- src/lib.rt:123:30
 read-entry-requires : tie.Need-read-entry-requires
 read-entry-requires c κs = search needs
 
--- src/lib.rt:123:9
 closing-of-requires : tie.Need-closing-of-requires
 closing-of-requires c κs = search needs
 
--- src/lib.rt:126:9
 put-closing-requires : tie.Need-put-closing-requires
 put-closing-requires c κs = lacking _ _ (sym (c .before .before .before .before .before .before .lacks-room .ensures) ∙ c .before .before .before .before .before .if1 .left)
 
--- src/lib.rt:127:14
 stage-closed-requires : tie.Need-stage-closed-requires
 stage-closed-requires c κs = search needs
 
--- src/lib.rt:127:55
 wants-closed-requires : tie.Need-wants-closed-requires
 wants-closed-requires c κs = search needs
 
--- src/lib.rt:127:5
 piece-of-requires-2 : tie.Need-piece-of-requires-2
 piece-of-requires-2 c κs = search needs
 
--- src/lib.rt:104:1
 same-length-5 : tie.Need-same-length-5
 same-length-5 c = c .before .before .before .before .before .put-closing .kept .0 ∙ c .before .before .before .before .before .before .before .before .before .before .before .before .before .before .before .before .before .before .before .before .before .before .make-turns .kept .1 .1 .0
 
--- src/lib.rt:104:1
 same-length-6 : tie.Need-same-length-6
 same-length-6 c = c .before .before .before .before .before .before .before .before .before .before .before .before .before .before .before .before .before .before .before .before .before .before .make-turns .kept .1 .1 .1 .0
 
--- src/lib.rt:104:1
 same-length-7 : tie.Need-same-length-7
 same-length-7 c = c .before .before .before .before .before .before .before .before .before .before .before .before .before .before .before .before .before .before .before .before .before .before .make-turns .kept .1 .1 .1 .1 .0
 
--- src/lib.rt:104:1
 same-length-8 : tie.Need-same-length-8
 same-length-8 c = search needs
 
--- src/lib.rt:104:1
 returns-2 : tie.Need-returns-2
 returns-2 c = turns-close _ _ _ _ _ _ _ _ _ (c .before .before .before .before .before .before .before .before .before .before .before .before .before .before .before .before .before .before .before .before .before .before .make-turns .ensures) (c .before .before .before .before .before .before .before .before .before .before .before .before .before .before .before .before .before .before .before .before .before .before .make-turns .kept .1 .1 .0) _ _ _ _ _ _ _ (sym (c .before .before .before .before .before .before .before .before .before .before .before .before .lacks-room .ensures) ∙ c .before .before .before .before .before .before .before .before .before .before .before .if1 .left) (tail-all (c .before .before .before .before .before .before .before .before .before .before .before .before .before .before .before .before .before .before .before .before .before .before .make-turns .result .used) (c .before .before .before .before .before .before .before .before .before .before .before .before .before .before .before .before .before .before .before .before .before .before .before .before .before .before .before .before .before .before .before .before .args .bytes .now)) (rw (c .before .before .before .before .before .before .before .before .before .read-entry .ensures) at (c .before .before .before .before .before .before .before .before .closing-of .ensures)) (c .before .before .stage-closed .ensures) (c .before .wants-closed .ensures) (c .before .before .before .before .before .put-closing .ensures) (c .piece-of2 .ensures)
 

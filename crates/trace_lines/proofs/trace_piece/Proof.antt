@@ -5,79 +5,57 @@ use Rattle.trace_lines.specs.Pieces.{pieceOf}
 use borrow.Author.Needs.{needs}
 use Rattle.trace_lines.proofs.trace_piece.Statement.{statement}
 use Rattle.trace_lines.proofs.trace_piece.Tie as tie
-use Rattle.trace_lines.proofs.trace_piece.Reads as reads
-use Rattle.trace_lines.proofs.trace_piece.Lts as lts
-use Rattle.trace_lines.proofs.open.Reads as open-reads
-use Rattle.trace_lines.proofs.piece_of.Reads as piece-of-reads
-use Rattle.trace_lines.proofs.run.Reads as run-reads
 
--- src/lib.rt:145:52
 enum-told : tie.Need-enum-told
 enum-told c = search needs
 
--- src/lib.rt:145:25
 open-requires : tie.Need-open-requires
 open-requires c κs = search needs
 
--- src/lib.rt:146:53
 enum-told-2 : tie.Need-enum-told-2
 enum-told-2 c = search needs
 
--- src/lib.rt:146:27
 run-requires : tie.Need-run-requires
 run-requires c κs = search needs
 
--- src/lib.rt:147:55
 enum-told-3 : tie.Need-enum-told-3
 enum-told-3 c = search needs
 
--- src/lib.rt:147:24
 piece-of-requires : tie.Need-piece-of-requires
 piece-of-requires c κs = search needs
 
--- src/lib.rt:131:1
 same-length : tie.Need-same-length
 same-length c = search needs
 
--- src/lib.rt:131:1
 same-length-2 : tie.Need-same-length-2
 same-length-2 c = search needs
 
--- src/lib.rt:131:1
 same-length-3 : tie.Need-same-length-3
 same-length-3 c = search needs
 
--- src/lib.rt:131:1
 same-length-4 : tie.Need-same-length-4
 same-length-4 c = search needs
 
--- src/lib.rt:131:1
 returns : tie.Need-returns
 unfolding pieceOf
 returns c = rw (c .before .before .before .before .before .before .before .before .before .before .before .before .before .enum-told .given .1) (c .before .before .before .before .before .before .before .before .«open» .ensures)
 
--- src/lib.rt:131:1
 same-length-5 : tie.Need-same-length-5
 same-length-5 c = search needs
 
--- src/lib.rt:131:1
 same-length-6 : tie.Need-same-length-6
 same-length-6 c = search needs
 
--- src/lib.rt:131:1
 same-length-7 : tie.Need-same-length-7
 same-length-7 c = search needs
 
--- src/lib.rt:131:1
 same-length-8 : tie.Need-same-length-8
 same-length-8 c = search needs
 
--- src/lib.rt:131:1
 returns-2 : tie.Need-returns-2
 unfolding pieceOf
 returns-2 c = rw (c .before .before .before .before .before .before .before .before .before .before .before .before .before .enum-told2 .given .1) (c .before .before .before .before .before .before .before .before .run .ensures)
 
--- src/lib.rt:131:1
 returns-3 : tie.Need-returns-3
 unfolding pieceOf
 returns-3 c = let e = c .piece-of .ensures in rw (c .before .enum-told3 .given .1) (still _ _ _ _ _ _ Over Nothing (rw (c .before .enum-told3 .given .1) at e))

@@ -1,17 +1,13 @@
-use mathlib.Core.Path.{refl}
-use lib.ListN.{length-set}
+use mathlib.Core.Path.{refl, _≡_, sym, ap, _∙_}
+use lib.ListN.{length-set, length, getD, set}
 use borrow.Author.Needs.{needs}
 use Prim.Native.Nat.{ℕ, suc, _≤_, _<_, _+_, _-_}
-use lib.ListN.{length, getD, set}
 use mathlib.Core.List.{List}
-use mathlib.Core.Path.{_≡_, sym, ap, _∙_}
 use native.Mathlib.Omega.{arith}
 use Rattle.schedule.specs.Joining.{movedIn}
 use Rattle.schedule.proofs.Moved.{moved-none, moved-more, kept-beyond, kept-before, kept-all}
 use Rattle.schedule.proofs.joining.keep.Statement.{statement}
 use Rattle.schedule.proofs.joining.keep.Tie as tie
-use Rattle.schedule.proofs.joining.keep.Reads as reads
-use Rattle.schedule.proofs.joining.keep.Lts as lts
 
 abbrev Inv-loop : tie.InvT-loop
 Inv-loop buffer₀ used count kept i₀ buffer i = (i ≤ kept) × (buffer ≡ movedIn buffer₀ used i) × (length buffer ≡ length buffer₀) × (used + kept ≤ length buffer₀)

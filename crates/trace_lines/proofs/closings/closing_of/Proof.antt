@@ -1,67 +1,49 @@
 use borrow.Author.Needs.{needs}
 use Rattle.trace_lines.proofs.closings.closing_of.Statement.{statement}
 use Rattle.trace_lines.proofs.closings.closing_of.Tie as tie
-use Rattle.trace_lines.proofs.closings.closing_of.Reads as reads
-use Rattle.trace_lines.proofs.closings.closing_of.Lts as lts
-use Rattle.trace_lines.proofs.closings.cut_at.Reads as cut-at-reads
 
--- src/closings.rt:43:28
 enum-told : tie.Need-enum-told
 enum-told c = search needs
 
--- src/closings.rt:44:28
 enum-told-2 : tie.Need-enum-told-2
 enum-told-2 c = search needs
 
--- src/closings.rt:45:27
 enum-told-3 : tie.Need-enum-told-3
 enum-told-3 c = search needs
 
--- src/closings.rt:46:28
 enum-told-4 : tie.Need-enum-told-4
 enum-told-4 c = search needs
 
--- src/closings.rt:47:27
 enum-told-5 : tie.Need-enum-told-5
 enum-told-5 c = search needs
 
--- src/closings.rt:48:23
 enum-told-6 : tie.Need-enum-told-6
 enum-told-6 c = search needs
 
--- src/closings.rt:49:23
 enum-told-7 : tie.Need-enum-told-7
 enum-told-7 c = search needs
 
--- src/closings.rt:49:23
 cut-at-requires : tie.Need-cut-at-requires
 cut-at-requires c κs = search needs
 
--- src/closings.rt:39:1
 returns : tie.Need-returns
 returns c = search needs
 
--- src/closings.rt:39:1
 returns-2 : tie.Need-returns-2
 returns-2 c = search needs
 
--- src/closings.rt:39:1
 returns-3 : tie.Need-returns-3
 returns-3 c = search needs
 
--- src/closings.rt:39:1
 returns-4 : tie.Need-returns-4
 returns-4 c = search needs
 
--- src/closings.rt:39:1
 returns-5 : tie.Need-returns-5
 returns-5 c = search needs
 
--- src/closings.rt:39:1
 returns-6 : tie.Need-returns-6
 returns-6 c = search needs
 
--- src/closings.rt:39:1
 returns-7 : tie.Need-returns-7
 returns-7 c = simp (c .cut-at .ensures, c .before .enum-told7 .given .1)
 

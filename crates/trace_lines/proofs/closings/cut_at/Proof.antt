@@ -1,20 +1,14 @@
-use borrow.Author.Tests.{ne-eqb}
-use borrow.Author.Tests.{eq-eqb}
+use borrow.Author.Tests.{ne-eqb, eq-eqb}
 use borrow.Author.Needs.{needs}
 use Rattle.trace_lines.proofs.closings.cut_at.Statement.{statement}
 use Rattle.trace_lines.proofs.closings.cut_at.Tie as tie
-use Rattle.trace_lines.proofs.closings.cut_at.Reads as reads
-use Rattle.trace_lines.proofs.closings.cut_at.Lts as lts
 
--- src/closings.rt:32:13
 returns : tie.Need-returns
 returns c = simp (eq-eqb _ _ (c .if2 .taken), c .before .if1 .taken)
 
--- src/closings.rt:34:9
 returns-2 : tie.Need-returns-2
 returns-2 c = simp (ne-eqb _ _ (c .if2 .left), c .before .if1 .taken)
 
--- src/closings.rt:27:1
 returns-3 : tie.Need-returns-3
 returns-3 c = search needs
 

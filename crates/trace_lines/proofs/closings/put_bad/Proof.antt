@@ -7,19 +7,13 @@ use Rattle.trace_text.proofs.Room.{laid-whole}
 use borrow.Author.Needs.{needs}
 use Rattle.trace_lines.proofs.closings.put_bad.Statement.{statement}
 use Rattle.trace_lines.proofs.closings.put_bad.Tie as tie
-use Rattle.trace_lines.proofs.closings.put_bad.Reads as reads
-use Rattle.trace_lines.proofs.closings.put_bad.Lts as lts
-use Rattle.trace_text.proofs.put_line.Reads as put-line-reads
 
--- src/closings.rt:87:5
 put-line-requires : tie.Need-put-line-requires
 put-line-requires c κs = search needs
 
--- src/closings.rt:77:1
 same-length : tie.Need-same-length
 same-length c = search needs
 
--- src/closings.rt:77:1
 returns : tie.Need-returns
 returns c = let line = Entry (record { number = c .before .before .before .before .before .args .counts .entries; who = recordNumber 0; event = Bad }) in let h = laid-whole _ _ _ _ line (c .before .before .before .before .before .pre) (c .before .before .put-line .ensures) in (h, omega (arith, line-short line, h .1))
 

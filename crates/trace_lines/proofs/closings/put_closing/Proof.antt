@@ -3,60 +3,43 @@ use native.Mathlib.Omega.{arith}
 use borrow.Author.Needs.{needs}
 use Rattle.trace_lines.proofs.closings.put_closing.Statement.{statement}
 use Rattle.trace_lines.proofs.closings.put_closing.Tie as tie
-use Rattle.trace_lines.proofs.closings.put_closing.Reads as reads
-use Rattle.trace_lines.proofs.closings.put_closing.Lts as lts
-use Rattle.trace_lines.proofs.closings.put_bad.Reads as put-bad-reads
-use Rattle.trace_lines.proofs.closings.put_end.Reads as put-end-reads
 
--- src/closings.rt:101:27
 enum-told : tie.Need-enum-told
 enum-told c = search needs
 
--- src/closings.rt:102:27
 enum-told-2 : tie.Need-enum-told-2
 enum-told-2 c = search needs
 
--- src/closings.rt:103:34
 enum-told-3 : tie.Need-enum-told-3
 enum-told-3 c = search needs
 
--- src/closings.rt:103:26
 put-end-requires : tie.Need-put-end-requires
 put-end-requires c κs = search needs
 
--- src/closings.rt:105:34
 enum-told-4 : tie.Need-enum-told-4
 enum-told-4 c = search needs
 
--- src/closings.rt:105:17
 put-bad-requires : tie.Need-put-bad-requires
 put-bad-requires c κs = search needs
 
--- src/closings.rt:106:13
 put-end-requires-2 : tie.Need-put-end-requires-2
 put-end-requires-2 c κs = search needs
 
--- src/closings.rt:90:1
 returns : tie.Need-returns
 returns c = rw (c .enum-told .given .1) (laid-none _ _)
 
--- src/closings.rt:90:1
 returns-2 : tie.Need-returns-2
 returns-2 c = rw (c .enum-told2 .given .1) (laid-none _ _)
 
--- src/closings.rt:90:1
 same-length : tie.Need-same-length
 same-length c = search needs
 
--- src/closings.rt:90:1
 returns-3 : tie.Need-returns-3
 returns-3 c = rw (c .before .before .before .before .enum-told3 .given .1) (c .before .before .put-end .ensures)
 
--- src/closings.rt:90:1
 same-length-2 : tie.Need-same-length-2
 same-length-2 c = search needs
 
--- src/closings.rt:90:1
 returns-4 : tie.Need-returns-4
 returns-4 c = let e = c .before .before .before .before .before .before .put-bad .ensures in rw (c .before .before .before .before .before .before .before .before .enum-told4 .given .1) (then _ _ _ _ _ _ _ _ (omega (arith, c .before .before .before .before .before .before .before .before .before .before .before .pre, e .1)) (e .0) (c .before .before .put-end2 .ensures))
 

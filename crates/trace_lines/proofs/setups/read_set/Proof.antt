@@ -1,19 +1,13 @@
-use borrow.Author.Tests.{ne-eqb}
-use borrow.Author.Tests.{eq-eqb}
+use borrow.Author.Tests.{ne-eqb, eq-eqb}
 use Rattle.trace_lines.proofs.setups.read_set.Statement.{statement}
 use Rattle.trace_lines.proofs.setups.read_set.Tie as tie
-use Rattle.trace_lines.proofs.setups.read_set.Reads as reads
-use Rattle.trace_lines.proofs.setups.read_set.Lts as lts
 
--- src/setups.rt:51:9
 returns : tie.Need-returns
 returns c = simp (eq-eqb _ _ (c .if1 .taken))
 
--- src/setups.rt:57:9
 returns-2 : tie.Need-returns-2
 returns-2 c = simp (eq-eqb _ _ (c .if2 .taken), ne-eqb _ _ (c .before .if1 .left))
 
--- src/setups.rt:47:1
 returns-3 : tie.Need-returns-3
 returns-3 c = simp (ne-eqb _ _ (c .if2 .left), ne-eqb _ _ (c .before .if1 .left))
 

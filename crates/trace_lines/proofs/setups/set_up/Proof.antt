@@ -5,74 +5,49 @@ use Rattle.trace_text.proofs.Room.{laid-whole}
 use borrow.Author.Needs.{needs}
 use Rattle.trace_lines.proofs.setups.set_up.Statement.{statement}
 use Rattle.trace_lines.proofs.setups.set_up.Tie as tie
-use Rattle.trace_lines.proofs.setups.set_up.Reads as reads
-use Rattle.trace_lines.proofs.setups.set_up.Lts as lts
-use Rattle.any_dock.proofs.any_work.Reads as any-work-reads
-use Rattle.thread_records.proofs.empty_list.Reads as empty-list-reads
-use Rattle.thread_records.proofs.idle_record.Reads as idle-record-reads
-use Rattle.trace_lines.proofs.setups.kind_of.Reads as kind-of-reads
-use Rattle.trace_lines.proofs.setups.no_counts.Reads as no-counts-reads
-use Rattle.trace_lines.proofs.setups.setup_line.Reads as setup-line-reads
-use Rattle.trace_lines.proofs.setups.stage_after.Reads as stage-after-reads
-use Rattle.trace_text.proofs.put_line.Reads as put-line-reads
 
--- src/setups.rt:135:30
 empty-list-requires : tie.Need-empty-list-requires
 empty-list-requires c κs = search needs
 
--- src/setups.rt:135:9
 idle-record-requires : tie.Need-idle-record-requires
 idle-record-requires c κs = search needs
 
--- src/setups.rt:138:18
 empty-list-requires-2 : tie.Need-empty-list-requires-2
 empty-list-requires-2 c κs = search needs
 
--- src/setups.rt:143:9
 cast-any-work : tie.Need-cast-any-work
 cast-any-work c = search needs
 
--- src/setups.rt:140:9
 any-work-requires : tie.Need-any-work-requires
 any-work-requires c κs = search needs
 
--- src/setups.rt:154:34
 kind-of-requires : tie.Need-kind-of-requires
 kind-of-requires c κs = search needs
 
--- src/setups.rt:154:9
 setup-line-requires : tie.Need-setup-line-requires
 setup-line-requires c κs = search needs
 
--- src/setups.rt:157:17
 no-counts-requires : tie.Need-no-counts-requires
 no-counts-requires c κs = search needs
 
--- src/setups.rt:162:16
 stage-after-requires : tie.Need-stage-after-requires
 stage-after-requires c κs = search needs
 
--- src/setups.rt:164:18
 put-line-requires : tie.Need-put-line-requires
 put-line-requires c κs = search needs
 
--- src/setups.rt:123:1
 same-length : tie.Need-same-length
 same-length c = search needs
 
--- src/setups.rt:123:1
 same-length-2 : tie.Need-same-length-2
 same-length-2 c = search needs
 
--- src/setups.rt:123:1
 same-length-3 : tie.Need-same-length-3
 same-length-3 c = search needs
 
--- src/setups.rt:123:1
 same-length-4 : tie.Need-same-length-4
 same-length-4 c = search needs
 
--- src/setups.rt:123:1
 returns : tie.Need-returns
 returns c =
     let idle = c .before .before .before .before .before .before .before .before .before .before .before .before .before .before .before .before .before .before .before .before .before .before .before .idle-record .ensures ∙ ap idleRecord (c .before .before .before .before .before .before .before .before .before .before .before .before .before .before .before .before .before .before .before .before .before .before .before .before .empty-list .ensures) in

@@ -2,56 +2,37 @@ use Rattle.trace_turns.proofs.Parts.{moved, told}
 use borrow.Author.Needs.{needs}
 use Rattle.trace_turns.proofs.moves.make_turn.Statement.{statement}
 use Rattle.trace_turns.proofs.moves.make_turn.Tie as tie
-use Rattle.trace_turns.proofs.moves.make_turn.Reads as reads
-use Rattle.trace_turns.proofs.moves.make_turn.Lts as lts
-use Rattle.any_dock.proofs.any_work.Reads as any-work-reads
-use Rattle.schedule.proofs.read_entry.Reads as read-entry-reads
-use Rattle.trace_turns.proofs.moves.brought_by.Reads as brought-by-reads
-use Rattle.trace_turns.proofs.moves.counted_with.Reads as counted-with-reads
-use Rattle.trace_turns.proofs.moves.turn_of.Reads as turn-of-reads
-use Rattle.trace_turns.proofs.told.put_told.Reads as put-told-reads
 
--- src/moves.rt:182:9
 read-entry-requires : tie.Need-read-entry-requires
 read-entry-requires c κs = search needs
 
--- src/moves.rt:183:9
 turn-of-requires : tie.Need-turn-of-requires
 turn-of-requires c κs = search needs
 
--- src/moves.rt:184:9
 brought-by-requires : tie.Need-brought-by-requires
 brought-by-requires c κs = search needs
 
--- src/moves.rt:189:9
 any-work-requires : tie.Need-any-work-requires
 any-work-requires c κs = search needs
 
--- src/moves.rt:194:9
 put-told-requires : tie.Need-put-told-requires
 put-told-requires c κs = c .before .before .before .before .before .before .before .before .before .before .before .before .before .before .before .before .before .before .before .before .before .before .pre
 
--- src/moves.rt:198:17
 counted-with-requires : tie.Need-counted-with-requires
 counted-with-requires c κs = search needs
 
--- src/moves.rt:165:1
 same-length : tie.Need-same-length
 same-length c = search needs
 
--- src/moves.rt:165:1
 same-length-2 : tie.Need-same-length-2
 same-length-2 c = search needs
 
--- src/moves.rt:165:1
 same-length-3 : tie.Need-same-length-3
 same-length-3 c = search needs
 
--- src/moves.rt:165:1
 same-length-4 : tie.Need-same-length-4
 same-length-4 c = search needs
 
--- src/moves.rt:165:1
 returns : tie.Need-returns
 returns c =
     let a = c .before .before .before .before .before .before .before .before .before .before .before .before .before .before .before .before .before .before .before .before .before .before .before .before .before .before .args in

@@ -1,75 +1,55 @@
 use borrow.Author.Needs.{needs}
 use Rattle.trace_turns.proofs.moves.turn_of.Statement.{statement}
 use Rattle.trace_turns.proofs.moves.turn_of.Tie as tie
-use Rattle.trace_turns.proofs.moves.turn_of.Reads as reads
-use Rattle.trace_turns.proofs.moves.turn_of.Lts as lts
-use Rattle.trace_turns.proofs.moves.nobody.Reads as nobody-reads
 
--- src/moves.rt:71:28
 enum-told : tie.Need-enum-told
 enum-told c = search needs
 
--- src/moves.rt:71:28
 nobody-requires : tie.Need-nobody-requires
 nobody-requires c κs = search needs
 
--- src/moves.rt:72:22
 enum-known-entry : tie.Need-enum-known-entry
 enum-known-entry c = search needs
 
--- src/moves.rt:80:21
 enum-known-entry-2 : tie.Need-enum-known-entry-2
 enum-known-entry-2 c = search needs
 
--- src/moves.rt:84:22
 enum-known-entry-3 : tie.Need-enum-known-entry-3
 enum-known-entry-3 c = search needs
 
--- src/moves.rt:88:21
 enum-known-entry-4 : tie.Need-enum-known-entry-4
 enum-known-entry-4 c = search needs
 
--- src/moves.rt:95:23
 enum-told-2 : tie.Need-enum-told-2
 enum-told-2 c = search needs
 
--- src/moves.rt:95:23
 nobody-requires-2 : tie.Need-nobody-requires-2
 nobody-requires-2 c κs = search needs
 
--- src/moves.rt:96:23
 enum-told-3 : tie.Need-enum-told-3
 enum-told-3 c = search needs
 
--- src/moves.rt:96:23
 nobody-requires-3 : tie.Need-nobody-requires-3
 nobody-requires-3 c κs = search needs
 
--- src/moves.rt:67:1
 returns : tie.Need-returns
 returns c = search needs
 
--- src/moves.rt:67:1
 returns-2 : tie.Need-returns-2
 returns-2 c = simp (c .before .before .before .entry .given .1)
 
--- src/moves.rt:67:1
 returns-3 : tie.Need-returns-3
 returns-3 c = simp (c .before .entry2 .given .1)
 
--- src/moves.rt:67:1
 returns-4 : tie.Need-returns-4
 returns-4 c = simp (c .before .entry3 .given .1)
 
--- src/moves.rt:67:1
 returns-5 : tie.Need-returns-5
 returns-5 c = simp (c .before .before .entry4 .given .1)
 
--- src/moves.rt:67:1
 returns-6 : tie.Need-returns-6
 returns-6 c = search needs
 
--- src/moves.rt:67:1
 returns-7 : tie.Need-returns-7
 returns-7 c = search needs
 

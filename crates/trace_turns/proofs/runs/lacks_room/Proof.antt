@@ -4,20 +4,15 @@ use Prim.Native.Nat.{_+_}
 use native.Mathlib.Omega.{arith}
 use Rattle.trace_turns.proofs.runs.lacks_room.Statement.{statement}
 use Rattle.trace_turns.proofs.runs.lacks_room.Tie as tie
-use Rattle.trace_turns.proofs.runs.lacks_room.Reads as reads
-use Rattle.trace_turns.proofs.runs.lacks_room.Lts as lts
 
--- src/runs.rt:30:9
 returns : tie.Need-returns
 unfolding lacksRoom
 returns c = simp (lt-ltb (c .before .args .room) (c .before .args .written + 256) (omega (arith, c .if1 .taken)))
 
--- src/runs.rt:33:9
 returns-2 : tie.Need-returns-2
 unfolding lacksRoom
 returns-2 c = simp (lt-ltb (c .before .before .args .room) (c .before .before .args .written + 256) (omega (arith, c .if2 .taken, c .before .if1 .left)))
 
--- src/runs.rt:26:1
 returns-3 : tie.Need-returns-3
 unfolding lacksRoom
 returns-3 c = simp (le-ltb (c .before .before .args .room) (c .before .before .args .written + 256) (omega (arith, c .if2 .left, c .before .if1 .left)))

@@ -1,13 +1,9 @@
 use Rattle.thread_records.specs.Records.{idleRecord}
-use mathlib.Core.Path.{ap}
-use Rattle.trace_turns.proofs.Turning.{stored-there, stored-nowhere, fetched-there, fetched-nowhere}
-use Prim.Native.Nat.{ℕ}
-use Rattle.trace_turns.proofs.Turning.{Along, either, roomy, starts, length-kept, steps, ends, scene-made, told-made}
+use mathlib.Core.Path.{ap, refl, sym, _∙_, _≡_}
+use Rattle.trace_turns.proofs.Turning.{stored-there, stored-nowhere, fetched-there, fetched-nowhere, Along, either, roomy, starts, length-kept, steps, ends, scene-made, told-made}
 use mathlib.Core.Logic.{inl, inr}
-use mathlib.Core.Path.{refl, sym, _∙_}
 use borrow.Author.Needs.{needs}
 use lib.ListN.{length}
-use mathlib.Core.Path.{_≡_}
 use native.Mathlib.Omega.{arith}
 use Rattle.trace_turns.specs.Scenes.{sceneOf}
 use Rattle.trace_turns.proofs.runs.make_turns.Statement.{statement}
@@ -74,10 +70,14 @@ loop-again c =
     let run = c .before .before .before .before .before .before .before .before .before .before .before .before .before .before .before .before .before .before .before .before .before .before .before .before .before .before .before .before .before .before .before .before .before .before .args .running in
     let sits = c .before .before .before .before .before .before .before .before .before .before .before .before .before .before .before .before .before .before .before .before .before .before .before .before .before .seats-of .ensures .0 in
     let thread = c .before .before .before .before .before .before .before .before .before .before .before .before .before .before .before .before .before .if2 .came in
-    let idle = c .before .before .before .before .before .before .before .before .before .before .before .before .before .before .before .before .before .before .before .before .before .before .before .idle-record .ensures ∙ ap idleRecord (c .before .before .before .before .before .before .before .before .before .before .before .before .before .before .before .before .before .before .before .before .before .before .before .before .empty-list .ensures) in
-    (steps _ _ _ _ _ _ _ _ _ _ _ _ _ (omega (arith, c .before .before .before .before .before .before .before .before .before .before .before .before .before .before .before .before .before .before .before .before .before .loop-test .taken)) (a .inv .0) (sym (c .before .before .before .before .before .before .before .before .before .before .before .before .before .before .before .before .before .before .before .before .goes-on .ensures) ∙ c .before .before .before .before .before .before .before .before .before .before .before .before .before .before .before .before .before .before .before .if1 .taken)
-    (told-made _ _ _ (either thread (λ x. x .2 ∙ fetched-there (run .records) _ _ _ (a .table) sits place (x .0 .taken)) (λ x. x .1 ∙ fetched-nowhere (run .records) _ _ _ (a .table) sits place _ idle (x .0 .left))) _ _ _ _ (made .1 .0)) (made .1 .1) (c .rest .ensures)
-    (scene-made _ _ _ (either thread (λ x. x .2 ∙ fetched-there (run .records) _ _ _ (a .table) sits place (x .0 .taken)) (λ x. x .1 ∙ fetched-nowhere (run .records) _ _ _ (a .table) sits place _ idle (x .0 .left))) _ _ (made .0) (either (c .before .before .if3 .came) (λ x. x .1 ∙ stored-there (run .records) _ _ _ (a .table) sits place _ (x .0 .taken)) (λ x. x .1 ∙ stored-nowhere (run .records) _ _ _ (a .table) sits place (c .before .before .before .before .before .before .before .before .before .before .before .before .make-turn .result .thread) (x .0 .left)))), search needs, search needs, search needs)
+    let idle = c .before .before .before .before .before .before .before .before .before .before .before .before .before .before .before .before .before .before .before .before .before .before .before .idle-record .ensures ∙ ap idleRecord (c .before .before .before .before .before .before .before .before .before .before .before .before .before .before .before .before .before .before .before .before .before .before .before .before .empty-list .ensures) in (
+      steps _ _ _ _ _ _ _ _ _ _ _ _ _ (omega (arith, c .before .before .before .before .before .before .before .before .before .before .before .before .before .before .before .before .before .before .before .before .before .loop-test .taken)) (a .inv .0) (sym (c .before .before .before .before .before .before .before .before .before .before .before .before .before .before .before .before .before .before .before .before .goes-on .ensures) ∙ c .before .before .before .before .before .before .before .before .before .before .before .before .before .before .before .before .before .before .before .if1 .taken)
+          (told-made _ _ _ (either thread (λ x. x .2 ∙ fetched-there (run .records) _ _ _ (a .table) sits place (x .0 .taken)) (λ x. x .1 ∙ fetched-nowhere (run .records) _ _ _ (a .table) sits place _ idle (x .0 .left))) _ _ _ _ (made .1 .0)) (made .1 .1) (c .rest .ensures)
+          (scene-made _ _ _ (either thread (λ x. x .2 ∙ fetched-there (run .records) _ _ _ (a .table) sits place (x .0 .taken)) (λ x. x .1 ∙ fetched-nowhere (run .records) _ _ _ (a .table) sits place _ idle (x .0 .left))) _ _ (made .0) (either (c .before .before .if3 .came) (λ x. x .1 ∙ stored-there (run .records) _ _ _ (a .table) sits place _ (x .0 .taken)) (λ x. x .1 ∙ stored-nowhere (run .records) _ _ _ (a .table) sits place (c .before .before .before .before .before .before .before .before .before .before .before .before .make-turn .result .thread) (x .0 .left)))),
+      search needs,
+      search needs,
+      search needs,
+    )
 
 sub-t45 : tie.Need-sub-t45 Inv-loop μ-loop
 sub-t45 c = search needs

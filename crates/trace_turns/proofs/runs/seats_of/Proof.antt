@@ -1,9 +1,5 @@
 use native.Mathlib.Omega.{arith}
 use borrow.Author.Tests.{lt-ltb, le-ltb}
-use borrow.Author.Tests.{le-ltb}
-use borrow.Author.Tests.{le-leb}
-use borrow.Author.Tests.{lt-leb}
-use borrow.Author.Tests.{lt-ltb}
 use Rattle.trace_turns.proofs.runs.seats_of.Statement.{statement}
 use Rattle.trace_turns.proofs.runs.seats_of.Tie as tie
 

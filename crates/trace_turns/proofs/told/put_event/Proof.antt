@@ -5,19 +5,13 @@ use Rattle.trace_text.proofs.Room.{laid-whole}
 use borrow.Author.Needs.{needs}
 use Rattle.trace_turns.proofs.told.put_event.Statement.{statement}
 use Rattle.trace_turns.proofs.told.put_event.Tie as tie
-use Rattle.trace_turns.proofs.told.put_event.Reads as reads
-use Rattle.trace_turns.proofs.told.put_event.Lts as lts
-use Rattle.trace_text.proofs.put_line.Reads as put-line-reads
 
--- src/told.rt:56:5
 put-line-requires : tie.Need-put-line-requires
 put-line-requires c κs = search needs
 
--- src/told.rt:40:1
 same-length : tie.Need-same-length
 same-length c = search needs
 
--- src/told.rt:40:1
 returns : tie.Need-returns
 returns c = let line = Entry (record { number = c .before .before .before .before .before .args .number; who = c .before .before .before .before .before .args .who; event = c .before .before .before .before .before .args .event }) in let h = laid-whole _ _ _ _ line (c .before .before .before .before .before .pre) (c .before .before .put-line .ensures) in (h, omega (arith, line-short line, h .1))
 

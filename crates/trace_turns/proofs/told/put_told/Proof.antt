@@ -4,29 +4,19 @@ use Rattle.trace_text.proofs.Laying.{then}
 use borrow.Author.Needs.{needs}
 use Rattle.trace_turns.proofs.told.put_told.Statement.{statement}
 use Rattle.trace_turns.proofs.told.put_told.Tie as tie
-use Rattle.trace_turns.proofs.told.put_told.Reads as reads
-use Rattle.trace_turns.proofs.told.put_told.Lts as lts
-use Rattle.trace_turns.proofs.told.event_of.Reads as event-of-reads
-use Rattle.trace_turns.proofs.told.put_event.Reads as put-event-reads
-use Rattle.trace_turns.proofs.told.put_noted.Reads as put-noted-reads
 
--- src/told.rt:97:9
 put-noted-requires : tie.Need-put-noted-requires
 put-noted-requires c κs = search needs
 
--- src/told.rt:98:41
 event-of-requires : tie.Need-event-of-requires
 event-of-requires c κs = search needs
 
--- src/told.rt:98:5
 put-event-requires : tie.Need-put-event-requires
 put-event-requires c κs = search needs
 
--- src/told.rt:82:1
 same-length : tie.Need-same-length
 same-length c = search needs
 
--- src/told.rt:82:1
 returns : tie.Need-returns
 unfolding toldText
 returns c =
