@@ -1,21 +1,8 @@
 // Reads a schedule from standard input and writes its trace to standard output, in pieces.
-use feeds::Feed;
-use feeds::advanced;
-use feeds::fresh_feed;
-use feeds::refilled;
-use feeds::unread;
 use libc::STDIN_FILENO;
 use libc::STDOUT_FILENO;
-use trace_lines::Tracer;
-use trace_lines::Wants;
-use trace_lines::fresh_tracer;
-use trace_lines::trace_piece;
-
-struct Going {
-    tracer: Tracer,
-    feed: Feed,
-    goes: bool,
-}
+use trace_feeds::fresh_going;
+use trace_feeds::go_on;
 
 // The lines of a piece. Whether they could be written.
 fn put_lines(out: &[u8], written: usize) -> bool {
@@ -23,46 +10,6 @@ fn put_lines(out: &[u8], written: usize) -> bool {
         return io::write_all(STDOUT_FILENO, &out[0..written]);
     }
     false
-}
-
-// More bytes, where they are wanted.
-fn fed(input: &mut [u8], feed: Feed, wants: Wants) -> Feed {
-    match wants {
-        Wants::Again => feed,
-        Wants::Bytes => refilled(STDIN_FILENO, input, feed),
-        Wants::Nothing => feed,
-    }
-}
-
-fn is_over(wants: Wants) -> bool {
-    match wants {
-        Wants::Again => false,
-        Wants::Bytes => false,
-        Wants::Nothing => true,
-    }
-}
-
-fn go_on(
-    going: Going,
-    input: &mut [u8],
-    out: &mut [u8],
-    slots: &mut [u32],
-    custody: &mut [u32],
-    cells: &mut [u64],
-) -> Going {
-    let tracer = going.tracer;
-    let feed = going.feed;
-    let bytes = unread(input, feed);
-    let piece = trace_piece(tracer, bytes, feed.last, out, slots, custody, cells);
-    let after = piece.tracer;
-    let wants = piece.wants;
-    let wrote = put_lines(out, piece.written);
-    let read = advanced(feed, piece.used);
-    Going {
-        tracer: after,
-        feed: fed(input, read, wants),
-        goes: wrote && !is_over(wants),
-    }
 }
 
 // No run makes 2^64 calls; the count is there so that the loop ends.
@@ -73,15 +20,13 @@ fn run(
     custody: &mut [u32],
     cells: &mut [u64],
 ) {
-    let mut going = Going {
-        tracer: fresh_tracer(),
-        feed: fresh_feed(),
-        goes: true,
-    };
+    let mut going = fresh_going();
+    let mut goes = true;
     let mut calls = u64::MAX;
-    while calls > 0 && going.goes {
+    while calls > 0 && goes {
         let now = going;
-        going = go_on(now, input, out, slots, custody, cells);
+        going = go_on(STDIN_FILENO, now, input, out, slots, custody, cells);
+        goes = put_lines(out, going.written) && !going.over;
         calls -= 1;
     }
 }

@@ -5,23 +5,23 @@ use Rattle.trace.proofs.run.Statement.{statement}
 use Rattle.trace.proofs.run.Tie as tie
 
 abbrev Inv-loop : tie.InvT-loop
-Inv-loop input₀ out₀ slots₀ custody₀ cells₀ going₀ calls₀ input out slots custody cells going calls =
+Inv-loop input₀ out₀ slots₀ custody₀ cells₀ going₀ goes₀ calls₀ input out slots custody cells going goes calls =
     (length input ≡ length input₀) × (length out ≡ length out₀) × (length slots ≡ length slots₀) × (length custody ≡ length custody₀) × (length cells ≡ length cells₀)
 
 abbrev μ-loop : tie.MeasureT-loop
-μ-loop input₀ out₀ slots₀ custody₀ cells₀ going₀ calls₀ input out slots custody cells going calls = calls
+μ-loop input₀ out₀ slots₀ custody₀ cells₀ going₀ goes₀ calls₀ input out slots custody cells going goes calls = calls
 
-fresh-tracer-requires : tie.Need-fresh-tracer-requires Inv-loop μ-loop
-fresh-tracer-requires c κs = search needs
-
-fresh-feed-requires : tie.Need-fresh-feed-requires Inv-loop μ-loop
-fresh-feed-requires c κs = search needs
+fresh-going-requires : tie.Need-fresh-going-requires Inv-loop μ-loop
+fresh-going-requires c κs = search needs
 
 loop-holds : tie.Need-loop-holds Inv-loop μ-loop
 loop-holds c = search needs
 
 go-on-requires : tie.Need-go-on-requires Inv-loop μ-loop
 go-on-requires c κs = search needs
+
+put-lines-requires : tie.Need-put-lines-requires Inv-loop μ-loop
+put-lines-requires c κs = search needs
 
 sub-calls : tie.Need-sub-calls Inv-loop μ-loop
 sub-calls c = search needs
@@ -74,10 +74,10 @@ run-spec =
     (tie.spec
     Inv-loop
     μ-loop
-    fresh-tracer-requires
-    fresh-feed-requires
+    fresh-going-requires
     loop-holds
     go-on-requires
+    put-lines-requires
     sub-calls
     loop-less
     loop-again
