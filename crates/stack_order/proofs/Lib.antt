@@ -1,0 +1,12 @@
+pub mod Lists
+pub mod Machine
+pub mod Words
+pub mod Model
+pub mod Inv
+pub mod Steps
+pub mod Turns
+pub mod Sound
+pub mod Bridge
+pub mod Lawful
+pub mod Ran
+pub mod Theorem

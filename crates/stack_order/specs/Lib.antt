@@ -1,0 +1,4 @@
+pub mod Stack
+pub mod History
+pub mod Runs
+pub mod Demand
