@@ -10,3 +10,4 @@ pub mod Bridge
 pub mod Lawful
 pub mod Ran
 pub mod Theorem
+pub mod Examples
