@@ -7,9 +7,9 @@ use native.Mathlib.Omega.{arith}
 use native.Mathlib.Decide.{ℕ-discrete}
 use lib.ListN.{length, getD, set}
 use lib.Seq.{getD-set-same, getD-set-other}
-use Rattle.stack_order.proofs.Machine.{headOf, tagOf, borOf, lockMark, free, Place, idle, acquire-look, borrowed-look, locked-look, acquire-read, acquire-exchange, acquire-write, release-look, release-write, release-exchange, Rec, nobody, at}
+use Rattle.stack_order.specs.Machine.{headOf, tagOf, borOf, lockMark, free, Place, idle, acquire-look, borrowed-look, locked-look, acquire-read, acquire-exchange, acquire-write, release-look, release-write, release-exchange, Rec, nobody, at}
 use Rattle.stack_order.proofs.Lists.{below, top, second, Chain}
-use Rattle.stack_order.proofs.Model.{State, live-place, live-of}
+use Rattle.stack_order.specs.Model.{Held, HeldAt, State, live-place, live-of}
 use Rattle.stack_order.specs.Stack.{count, Stack}
 
 -- the index that a record's next writes may touch
@@ -24,13 +24,6 @@ Touches (acquire-write j) i = j ≡ i
 Touches (release-look j m) i = j ≡ i
 Touches (release-write j m w) i = j ≡ i
 Touches (release-exchange j m w) i = j ≡ i
-
-abbrev pub Held : ℕ → Type 0
-Held c = c % 256 ≡ 2
-
--- the index i is held, by the custody buffer
-abbrev pub HeldAt : ℕ → List ℕ → ℕ → Type 0
-HeldAt cap l i = (i < cap) × Held (getD l i free)
 
 -- a mark of the custody buffer against the number of times that its index is in custody
 abbrev pub Marked : ℕ → ℕ → Type 0

@@ -1,7 +1,5 @@
 pub mod Lists
-pub mod Machine
 pub mod Words
-pub mod Model
 pub mod Inv
 pub mod Steps
 pub mod Turns

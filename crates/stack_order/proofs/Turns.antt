@@ -10,19 +10,10 @@ use Rattle.unique_index_set_enums.specs.declared.ReleaseMode.{ReleaseMode}
 use Rattle.unique_index_set_enums.specs.Kinds.{index}
 use Rattle.stack_order.specs.Stack.{Called, acquire, borrowedIndices, isLocked, release, Stack, replay, Answers}
 use Rattle.stack_order.specs.History.{oneMoreIf}
-use Rattle.stack_order.proofs.Machine.{free, giving, Place, idle, acquire-look, borrowed-look, locked-look, release-look, Rec, nobody, at, step-at}
-use Rattle.stack_order.proofs.Model.{State, place-of, live-of, Turned, applied, start-put, release-put, death-put, look-after, pending, current, ops}
-use Rattle.stack_order.proofs.Inv.{Touches, Held, HeldAt, Good, Inv, table-put, held-out, marks-put, not-free}
+use Rattle.stack_order.specs.Machine.{free, giving, Place, idle, acquire-look, borrowed-look, locked-look, release-look, Rec, nobody, at, step-at}
+use Rattle.stack_order.specs.Model.{Held, HeldAt, State, place-of, live-of, Turned, applied, start-put, release-put, death-put, look-after, pending, current, ops, Turns, steps, acquires, counts-out, asks, releases}
+use Rattle.stack_order.proofs.Inv.{Touches, Good, Inv, table-put, held-out, marks-put, not-free}
 use Rattle.stack_order.proofs.Steps.{stay, held-unset, held-gone, step-keeps}
-
--- What an accepted start or step may do, whatever else is refused: a live record steps, or starts a call while idle; a release's start is of a held index.
-pub data Turns (cap : ℕ) (st : State) : Turned → Type 0 where
-  steps : (r : ℕ) → getD (st .recs) r nobody .dead ≡ false → Turns cap st (applied st r (step-at cap (st .shared) r (place-of (st .recs) r)))
-  acquires : (r : ℕ) → getD (st .recs) r nobody .dead ≡ false → place-of (st .recs) r ≡ idle → Turns cap st (start-put st r acquire-look acquire)
-  counts-out : (r : ℕ) → getD (st .recs) r nobody .dead ≡ false → place-of (st .recs) r ≡ idle → Turns cap st (start-put st r borrowed-look borrowedIndices)
-  asks : (r : ℕ) → getD (st .recs) r nobody .dead ≡ false → place-of (st .recs) r ≡ idle → Turns cap st (start-put st r locked-look isLocked)
-  releases : (r i : ℕ) (m : ReleaseMode) → getD (st .recs) r nobody .dead ≡ false → place-of (st .recs) r ≡ idle → HeldAt cap (st .shared .custody) i
-      → Turns cap st (release-put st r i m)
 
 pub record TurnKept (cap n : ℕ) (lk : ℕ → ℕ) (s : Stack) (st : State) (t : Turned) : Type 0 where
   pub inv : Inv cap (oneMoreIf (t .event .wins) n) (look-after (t .event .looks) (t .event .by .0) n lk) (replay s (t .event .orders)) (t .state)

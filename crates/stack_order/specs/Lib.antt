@@ -2,3 +2,5 @@ pub mod Stack
 pub mod History
 pub mod Runs
 pub mod Demand
+pub mod Machine
+pub mod Model

@@ -1,5 +1,6 @@
 -- A table of records over the machine's shared words, and what an entry of a run may do to it.
-use Prim.Native.Nat.{ℕ}
+use Prim.Native.Nat.{ℕ, _%_, _<_}
+use mathlib.Core.Path.{_≡_}
 use mathlib.Core.Bool.{Bool, true, false, cond, _&&_}
 use mathlib.Core.List.{List, [], _∷_}
 use lib.ListN.{getD, set}
@@ -9,7 +10,7 @@ use Rattle.unique_index_set_enums.specs.Kinds.{index, recordNumber}
 use Rattle.calls.specs.declared.Answer.the-variants as answer
 use Rattle.stack_order.specs.Stack.{Called, acquire, borrowedIndices, isLocked, release, Call}
 use Rattle.stack_order.specs.History.{Event}
-use Rattle.stack_order.proofs.Machine.{giving, Place, idle, acquire-look, borrowed-look, locked-look, acquire-read, acquire-exchange, acquire-write, release-look, release-write, release-exchange, Rec, nobody, at, Shared, Effect}
+use Rattle.stack_order.specs.Machine.{free, giving, Place, idle, acquire-look, borrowed-look, locked-look, acquire-read, acquire-exchange, acquire-write, release-look, release-write, release-exchange, Rec, nobody, at, Shared, Effect, step-at}
 
 pub record State : Type 0 where
   pub shared : Shared
@@ -90,3 +91,20 @@ pending (release-exchange i m w) = []
 abbrev pub ops : List Call → List Called
 ops [] = []
 ops (c ∷ cs) = c .called ∷ ops cs
+
+-- a held index, by the custody buffer
+abbrev pub Held : ℕ → Type 0
+Held c = c % 256 ≡ 2
+
+-- the index i is held, by the custody buffer
+abbrev pub HeldAt : ℕ → List ℕ → ℕ → Type 0
+HeldAt cap l i = (i < cap) × Held (getD l i free)
+
+-- What an accepted start or step may do, whatever else is refused: a live record steps, or starts a call while idle; a release's start is of a held index.
+pub data Turns (cap : ℕ) (st : State) : Turned → Type 0 where
+  steps : (r : ℕ) → getD (st .recs) r nobody .dead ≡ false → Turns cap st (applied st r (step-at cap (st .shared) r (place-of (st .recs) r)))
+  acquires : (r : ℕ) → getD (st .recs) r nobody .dead ≡ false → place-of (st .recs) r ≡ idle → Turns cap st (start-put st r acquire-look acquire)
+  counts-out : (r : ℕ) → getD (st .recs) r nobody .dead ≡ false → place-of (st .recs) r ≡ idle → Turns cap st (start-put st r borrowed-look borrowedIndices)
+  asks : (r : ℕ) → getD (st .recs) r nobody .dead ≡ false → place-of (st .recs) r ≡ idle → Turns cap st (start-put st r locked-look isLocked)
+  releases : (r i : ℕ) (m : ReleaseMode) → getD (st .recs) r nobody .dead ≡ false → place-of (st .recs) r ≡ idle → HeldAt cap (st .shared .custody) i
+      → Turns cap st (release-put st r i m)

@@ -1,5 +1,5 @@
 -- The plain set as a machine of its own, with no buffers' kinds and no refusals: what a step of one record does to the shared words, and what it leaves in
--- the history. `Bridge` shows that the set's own steps are these.
+-- the history. It is no part of the statement (Demand.antt does not name it): the proof goes by way of it, and `Bridge` shows that the set's own steps are these.
 use Prim.Native.Nat.{ℕ, _+_, _-_, _*_, _/_, _%_, _^_}
 use mathlib.Core.Bool.{Bool, true, false, cond, _||_}
 use mathlib.Core.List.{List, [], _∷_}
