@@ -1,20 +1,18 @@
--- Not vacuous: a run with every kind of event, computed, that meets the premise. Assumes nothing.
+-- Not vacuous: two runs, computed, that meet the premise. Between them they have every kind of event. Assumes nothing.
 use Prim.Native.Nat.{ℕ, _-_, _<_}
-use mathlib.Core.Path.{_≡_, refl, sym, _∙_}
+use mathlib.Core.Path.{_≡_, refl}
 use mathlib.Core.Bool.{Bool, true, false, cond}
 use mathlib.Core.List as list
-use mathlib.Core.List.{[], _∷_, _++_}
+use mathlib.Core.List.{[], _∷_}
 use borrow.Author.Tests.{ltb-true}
 use lib.Dec.{ltb}
 use lib.ListN.{replicate}
-use Rattle.unique_index_set_enums.specs.declared.ReleaseMode.the-variants.{Default, LockIfLastIndex}
 use Rattle.unique_index_set_enums.specs.declared.ReleaseState.the-variants.{Unlocked, Locked}
 use Rattle.unique_index_set_enums.specs.declared.UniqueIndexSetAcquireFailure.the-variants.{OutOfIndices, IsLocked}
 use Rattle.unique_index_set_enums.specs.Kinds.{index, owner, recordNumber}
 use Rattle.calls.specs.declared.Answer.{Answer}
 use Rattle.calls.specs.declared.Answer.the-variants as answer
 use Rattle.calls.specs.declared.Progress.the-variants as progress
-use Rattle.calls.specs.declared.Request.{Request}
 use Rattle.thread_records.specs.Records.{emptyList, idleRecord}
 use Rattle.unique_index_set.specs.Steps.{Shared}
 use Rattle.turns.specs.declared.Operation.{Operation}
@@ -61,8 +59,9 @@ entry who o = record { who = recordNumber who; operation = o; brought = emptyLis
 abbrev asked : ℕ → ℕ → ℕ → Operation
 asked call i mode = Start (record { call = call; «index_or_room» = i; owner = owner 0; mode = mode })
 
--- an acquire; one that is overtaken, loses its exchange and finds nothing free; a drain; an acquire that is cut by death after its exchange won; releases, the
--- last of which does not lock since the dead record's index is out; what is borrowed, whether it is locked; refusals, and a list
+-- two acquires side by side, of which the second loses its exchange, wins the next index and is cut by death before it answers; a third finds nothing free;
+-- a list and a step that are refused; a release that is to lock and does not, since the dead record's index is out, made by a drain; what is borrowed, and
+-- whether it is locked
 abbrev entries : list.List Runs.Entry
 entries =
     entry 0 (asked 1 0 0) ∷ entry 0 Step ∷ entry 0 Step ∷ entry 1 (asked 1 0 0) ∷ entry 1 Step ∷ entry 1 Step ∷ entry 0 Step ∷ entry 0 Step
@@ -109,3 +108,25 @@ premise-met = refl
 
 pub example : Demand3 2 after
 example = demand-3 2 dock set-up entries [] (is-young (after .history) premise-met)
+
+-- a lock: two acquires; a release that is to lock loses its exchange to the other's release, writes its slot anew, wins and locks; then nothing is granted
+abbrev locking : list.List Runs.Entry
+locking =
+    entry 0 (asked 1 0 0) ∷ entry 0 (Drain 4) ∷ entry 1 (asked 1 0 0) ∷ entry 1 (Drain 4)
+    ∷ entry 0 (asked 2 0 1) ∷ entry 0 Step ∷ entry 0 Step ∷ entry 1 (asked 2 1 0) ∷ entry 1 (Drain 3) ∷ entry 0 Step ∷ entry 0 Step ∷ entry 0 Step
+    ∷ entry 2 (asked 1 0 0) ∷ entry 2 Step ∷ entry 2 (asked 3 0 0) ∷ entry 2 Step ∷ entry 2 (asked 4 0 0) ∷ entry 2 Step ∷ []
+
+abbrev locked : Runs.World
+locked = Runs.ran (Runs.begun 2 dock) locking
+
+pub locked-answers : answers (History.ordered (locked .history))
+    ≡ answer.Locked true ∷ answer.Borrowed 0 ∷ answer.NotAcquired IsLocked ∷ answer.Released Locked ∷ answer.Released Unlocked ∷ answer.Acquired (index 1) ∷ answer.Acquired (index 0) ∷ []
+unfolding unique-index-set-enums-numbers.modeRead unique-index-set-enums-robust.ownerRead unique-index-set-enums-robust.isEmpty unique-index-set-enums-robust.isLockedAt unique-index-set-enums-robust.nextGeneration calls-numbers.callRead calls-order.verdictOf calls-runs.runFrom custody-entry.custodyOf thread-records-deaths.deathOf thread-records-filled.filled thread-records-lists.amongFirst thread-records-lists.ownersCounted thread-records-lists.listed thread-records-lists.goodList thread-records-lists.ownerWithin thread-records-lists.listOf thread-records-records.notAlive thread-records-records.notIdle thread-records-records.notCalling plain-places-places.mayAcquire plain-places-places.mayRelease plain-places-places.releaseRead plain-places-places.placeRead plain-places-places.openedAt plain-calls-asks.askedRelease plain-calls-asks.askedOf plain-calls-marks.releaseMark plain-calls-resumes.acquireLooked plain-calls-resumes.releaseLooked plain-calls-resumes.borrowedIndices plain-calls-resumes.isLocked unique-index-set-accesses.acquiredWord unique-index-set-accesses.releasedWord unique-index-set-custodies.holds unique-index-set-drains.drainOf unique-index-set-setups.tooLarge unique-index-set-setups.setupShort unique-index-set-setups.setupVerdict unique-index-set-setups.setupOf unique-index-set-starts.startVerdict unique-index-set-starts.startOf unique-index-set-steps.sharedAfter unique-index-set-steps.advanced unique-index-set-steps.tooShort unique-index-set-steps.stepVerdict unique-index-set-steps.stepOf turns-docks.settled Stack.count Stack.without Stack.stackAfter Stack.stackAnswer Stack.upFrom Stack.replay History.changes History.lookedAt History.ordered History.inCustody Runs.stepsEvents Runs.after Runs.ran
+locked-answers = refl
+
+locked-young : youngs (locked .history) ≡ true
+unfolding youngs unique-index-set-enums-numbers.modeRead unique-index-set-enums-robust.ownerRead unique-index-set-enums-robust.isEmpty unique-index-set-enums-robust.isLockedAt unique-index-set-enums-robust.nextGeneration calls-numbers.callRead calls-order.verdictOf calls-runs.runFrom custody-entry.custodyOf thread-records-deaths.deathOf thread-records-filled.filled thread-records-lists.amongFirst thread-records-lists.ownersCounted thread-records-lists.listed thread-records-lists.goodList thread-records-lists.ownerWithin thread-records-lists.listOf thread-records-records.notAlive thread-records-records.notIdle thread-records-records.notCalling plain-places-places.mayAcquire plain-places-places.mayRelease plain-places-places.releaseRead plain-places-places.placeRead plain-places-places.openedAt plain-calls-asks.askedRelease plain-calls-asks.askedOf plain-calls-marks.releaseMark plain-calls-resumes.acquireLooked plain-calls-resumes.releaseLooked plain-calls-resumes.borrowedIndices plain-calls-resumes.isLocked unique-index-set-accesses.acquiredWord unique-index-set-accesses.releasedWord unique-index-set-custodies.holds unique-index-set-drains.drainOf unique-index-set-setups.tooLarge unique-index-set-setups.setupShort unique-index-set-setups.setupVerdict unique-index-set-setups.setupOf unique-index-set-starts.startVerdict unique-index-set-starts.startOf unique-index-set-steps.sharedAfter unique-index-set-steps.advanced unique-index-set-steps.tooShort unique-index-set-steps.stepVerdict unique-index-set-steps.stepOf turns-docks.settled Stack.count Stack.without Stack.stackAfter Stack.stackAnswer Stack.upFrom Stack.replay History.changes History.lookedAt History.ordered History.inCustody Runs.stepsEvents Runs.after Runs.ran
+locked-young = refl
+
+pub locked-example : Demand3 2 locked
+locked-example = demand-3 2 dock set-up locking [] (is-young (locked .history) locked-young)

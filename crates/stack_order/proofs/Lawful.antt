@@ -49,7 +49,8 @@ use Rattle.stack_order.specs.History.{Event, changes, lookedAt, startEve
 use Rattle.stack_order.specs.Runs.{ifTaken, openedEvent}
 use Rattle.stack_order.specs.Machine as M
 use Rattle.stack_order.specs.Model.{State, place-of, Turned, applied, Turns, steps, acquires, counts-out, asks, releases}
-use Rattle.stack_order.proofs.Sound.{Sound, sound-next}
+use Rattle.stack_order.proofs.Sound.{Sound, sound-next, sound-order}
+use Rattle.stack_order.specs.Demand.{InOrder}
 use Rattle.stack_order.proofs.Bridge.{placeIn, sharedIn, standsNext, Same, same-step}
 
 pub clash : {X : Type 0} → false ≡ true → X
@@ -78,6 +79,7 @@ pub record Good (size : ℕ) (s : Shared) (records : list.List Record) (h : list
   pub few : s .set .capacity ≤ 16777214
   pub sound : Sound (s .set .capacity) (stateOf s records) h
   pub whole : (r : ℕ) → damagedAt (s .set .capacity) (getD records r (idleRecord emptyList)) ≡ false
+  pub order : InOrder h
 
 -- ---- lists
 pub map-put : (f : Record → M.Rec) (l : list.List Record) (r : ℕ) (x : Record) → map f (set l r x) ≡ set (map f l) r (f x)
@@ -130,16 +132,17 @@ module _ (size : ℕ) (s : Shared) (records : list.List Record) (h : list.List E
   one-turn : (who : RecordNumber) (s′ : Shared) (t′ : Record) (e : Event) (T : Turned) → who .0 < length records → Turns (s .set .capacity) (stateOf s records) T → s′ .set .capacity ≡ s .set .capacity
       → T .state ≡ stateOf s′ (set records (who .0) t′) → T .event ≡ e → damagedAt (s .set .capacity) t′ ≡ false → (e .wins ≡ true → changes h - lookedAt h (e .by .0) < 65536)
       → Good size s′ (set records (who .0) t′) (e ∷ h)
-  one-turn who s′ t′ e T low l c st ev w y = record {
-    is = c ∙ g .is;
-    few = rw c (g .few);
-    sound =
-        subst⁻¹ (λ (k : ℕ). Sound k (stateOf s′ (set records (who .0) t′)) (e ∷ h)) c
-        (subst (λ (z : State). Sound (s .set .capacity) z (e ∷ h)) st
-        (subst (λ (z : Event). Sound (s .set .capacity) (T .state) (z ∷ h)) ev
-        (sound-next (s .set .capacity) (g .few) (stateOf s records) h (g .sound) T l (subst⁻¹ (λ (z : Event). z .wins ≡ true → changes h - lookedAt h (z .by .0) < 65536) ev y))));
-    whole = λ r. rw c (whole-put r (ℕ-discrete r (who .0)));
-  }
+  unfolding InOrder
+  one-turn who s′ t′ e T low l c st ev w y =
+      let sound′ = subst (λ (z : Event). Sound (s .set .capacity) (T .state) (z ∷ h)) ev
+      (sound-next (s .set .capacity) (g .few) (stateOf s records) h (g .sound) T l (subst⁻¹ (λ (z : Event). z .wins ≡ true → changes h - lookedAt h (z .by .0) < 65536) ev y)) in
+      record {
+        is = c ∙ g .is;
+        few = rw c (g .few);
+        sound = subst⁻¹ (λ (k : ℕ). Sound k (stateOf s′ (set records (who .0) t′)) (e ∷ h)) c (subst (λ (z : State). Sound (s .set .capacity) z (e ∷ h)) st sound′);
+        whole = λ r. rw c (whole-put r (ℕ-discrete r (who .0)));
+        order = (sound-order (s .set .capacity) (T .state) (e ∷ h) sound′, g .order);
+      }
     where
       whole-put : (r : ℕ) → Dec (r ≡ who .0) → damagedAt (s .set .capacity) (getD (set records (who .0) t′) r (idleRecord emptyList)) ≡ false
       whole-put r (yes q) = rw q (ap (damagedAt (s .set .capacity)) (getD-set-same records (who .0) t′ (idleRecord emptyList) low) ∙ w)

@@ -74,6 +74,7 @@ module _ (size : ℕ) (who : RecordNumber) where
           subst⁻¹ (λ (z : list.List M.Rec). Sound cap (record { shared = sharedIn s; recs = z }) h)
           (map-put (inRec cap) records (who .0) (withList t l) ∙ sym (map-put (inRec cap) records (who .0) t) ∙ ap (map (inRec cap)) (set-getD records (who .0) (idleRecord emptyList))) (g .sound);
       whole = set-all (λ (x : Record). damagedAt cap x ≡ false) records (who .0) (withList t l) (idleRecord emptyList) (g .whole) (g .whole (who .0));
+      order = g .order;
     }
 
     list-turn : (brought : OwnerList) → Good size s (set records (who .0) (listOf kind.Plain t n who brought .thread)) h
@@ -95,6 +96,7 @@ module _ (size : ℕ) (who : RecordNumber) where
       few = g .few;
       sound = subst (λ (z : list.List M.Rec). Sound cap (record { shared = sharedIn s; recs = z }) h) dead-recs (sound-death cap (g .few) (stateOf s records) h (g .sound) (who .0) (ap (λ (x : M.Rec). x .dead) got ∙ alive e .1));
       whole = set-all (λ (x : Record). damagedAt cap x ≡ false) records (who .0) (markedDead t) (idleRecord emptyList) (g .whole) (g .whole (who .0));
+      order = g .order;
     }
       where
         got : getD (map (inRec cap) records) (who .0) M.nobody ≡ inRec cap t

@@ -7,12 +7,12 @@ use Prim.Native.Nat.{ℕ, zero, suc, _+_, _-_, _≤_, _<_}
 use native.Mathlib.Omega.{arith}
 use native.Mathlib.Nat.{add-zero}
 use native.Mathlib.Decide.{ℕ-discrete, decLt}
-use lib.ListN.{length, getD}
+use lib.ListN.{length, getD, length-append}
 use borrow.Author.Tests.{eq-eqb, ne-eqb}
 use Rattle.stack_order.specs.Stack.{Called, acquire, borrowedIndices, isLocked, release, Call, Stack, count, taken, takenAnswer, stackAfter, stackAnswer, Allowed, upFrom, freshStack, replay, Answers}
 use Rattle.stack_order.specs.History.{Event, changes, lookedAt, ordered, startedBy, orderedBy, answeredBy, custodyAfter, inCustody}
 use Rattle.stack_order.specs.Demand.{RunsOut}
-use Rattle.stack_order.specs.Machine.{headOf, tagOf, borOf, lockMark, out-of-indices, free, Place, idle, nobody}
+use Rattle.stack_order.specs.Machine.{headOf, tagOf, borOf, lockMark, out-of-indices, free, Place, idle, nobody, acquire-look, borrowed-look, locked-look, acquire-read, acquire-exchange, acquire-write, release-look, release-write, release-exchange}
 use Rattle.stack_order.proofs.Lists.{same, same-eq, same-other, below, below-lt, below-ge, Chain}
 use Rattle.stack_order.specs.Model.{HeldAt, State, place-of, live-of, Turned, death-put, current, pending, ops, Turns}
 use Rattle.stack_order.proofs.Inv.{Marked, is-free, Touches, bits-of, Inv}
@@ -216,3 +216,27 @@ runs-out-is s (c ∷ cs) a = (
   λ e. rw (a .1, e) (pop-out ((replay s cs) .free) ((replay s cs) .locked)),
   runs-out-is s cs (a .2),
 )
+
+-- of each record no more is answered than is ordered, no more is ordered than was started
+pending-short : (p : Place) → length (pending p) ≤ length (current p)
+pending-short idle = omega arith
+pending-short acquire-look = omega arith
+pending-short borrowed-look = omega arith
+pending-short locked-look = omega arith
+pending-short (acquire-read w) = omega arith
+pending-short (acquire-exchange w v) = omega arith
+pending-short (acquire-write i) = omega arith
+pending-short (release-look i m) = omega arith
+pending-short (release-write i m w) = omega arith
+pending-short (release-exchange i m w) = omega arith
+
+ops-length : (calls : List Call) → length (ops calls) ≡ length calls
+ops-length [] = refl
+ops-length (c ∷ calls) = ap suc (ops-length calls)
+
+pub sound-order : (cap : ℕ) (st : State) (h : List Event) → Sound cap st h → (r : ℕ) → (length (answeredBy r h) ≤ length (orderedBy r h)) × (length (orderedBy r h) ≤ length (startedBy r h))
+sound-order cap st h v r =
+    let p = place-of (st .recs) r in
+    let a : length (orderedBy r h) ≡ length (pending p) + length (answeredBy r h) = ap length (v .counts r) ∙ length-append (pending p) (answeredBy r h) in
+    let b : length (startedBy r h) ≡ length (current p) + length (ops (answeredBy r h)) = ap length (v .calls r) ∙ length-append (current p) (ops (answeredBy r h)) in
+    (omega (arith, a), omega (arith, a, b, ops-length (answeredBy r h), pending-short p))

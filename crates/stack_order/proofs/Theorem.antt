@@ -4,10 +4,10 @@ use mathlib.Core.Path.{_≡_, refl, sym, ap, _∙_, subst, subst⁻¹}
 use mathlib.Core.Logic.{_↔_}
 use mathlib.Core.Bool.{Bool, true, false, cond, _&&_}
 use mathlib.Core.List as list
-use mathlib.Core.List.{[], _∷_, _++_, map}
+use mathlib.Core.List.{[], _∷_, _++_, map, cons≢nil}
 use native.Mathlib.Omega.{arith}
-use borrow.Author.Tests.{lt-ltb, le-ltb}
-use lib.Dec.{eqb}
+use borrow.Author.Tests.{lt-ltb, le-ltb, ltb-true, ltb-false, lt-leb, le-leb, ne-eqb}
+use lib.Dec.{eqb, leb, ltb}
 use lib.ListN.{length, getD}
 use Rattle.unique_index_set_enums.specs.declared.RecordNumber.{RecordNumber}
 use Rattle.calls.specs.declared.Answer.{Answer}
@@ -16,10 +16,18 @@ use Rattle.calls.specs.declared.Progress.{Progress}
 use Rattle.calls.specs.declared.Progress.the-variants as progress
 use Rattle.calls.specs.declared.Verdict.{Verdict}
 use Rattle.calls.specs.declared.Verdict.the-variants.{Accepted, Refused}
+use Rattle.calls.specs.Order.{testsAtSetup}
+use Rattle.calls.proofs.Order.{AllPassed, all-accepted}
 use Rattle.thread_records.specs.declared.OwnerList.{OwnerList}
 use Rattle.thread_records.specs.declared.Record.{Record}
 use Rattle.thread_records.specs.Records.{emptyList, idleRecord}
 use Rattle.thread_records.specs.Effects.{Effect, judged}
+use Rattle.unique_index_set_enums.specs.declared.UniqueIndexSetAcquireFailure.the-variants.{OutOfIndices, IsLocked}
+use Rattle.unique_index_set_enums.specs.Limits.{lockAcquire}
+use Rattle.head_details.specs.Word as word
+use Rattle.plain_calls.specs.declared.resumes.Next.{Next}
+use Rattle.plain_calls.specs.declared.resumes.Next.the-variants.{Going, Answered}
+use Rattle.plain_calls.specs.Resumes.{acquireLooked}
 use Rattle.custody.specs.declared.Custody.the-variants.{Free}
 use Rattle.custody.specs.Entry.{entryOf, custodyOf}
 use Rattle.custody.proofs.Laws.{known, entry-custody}
@@ -29,9 +37,9 @@ use Rattle.plain_places.specs.declared.Opened.{Opened}
 use Rattle.plain_places.specs.declared.Opened.the-variants.{At, Damaged}
 use Rattle.plain_places.specs.Places.{openedAt}
 use Rattle.plain_calls.specs.Asks.{askedOf}
-use Rattle.unique_index_set.specs.Steps.{Shared, sawAt, isDamaged, openedIn, stepOf}
+use Rattle.unique_index_set.specs.Steps.{Shared, nextAt, sawAt, isDamaged, openedIn, stepOf}
 use Rattle.unique_index_set.specs.Starts.{startOf}
-use Rattle.unique_index_set.specs.Setups.{setFresh, setupJudged, setupOf}
+use Rattle.unique_index_set.specs.Setups.{tooLarge, setupShort, setupVerdict, setFresh, setupJudged, setupOf}
 use Rattle.unique_index_set.proofs.Accepted.{setup-roomy}
 use Rattle.unique_index_set.proofs.Fresh as fresh
 use Rattle.turns.specs.declared.Operation.{Operation}
@@ -42,7 +50,7 @@ use Rattle.turns.proofs.Laws.{plain-idles}
 use Rattle.stack_order.specs.Stack.{Called, acquire, borrowedIndices, isLocked, release, Call, Stack, count, takenAnswer, stackAnswer, freshStack, replay, Answers}
 use Rattle.stack_order.specs.History.{Event, startEvent, callAt, exchangesAt, ordered, startedBy, orderedBy, answeredBy, inCustody, Young, AllYoung}
 use Rattle.stack_order.specs.Runs.{Entry, ifTaken, openedEvent, stepEvents, stepsEvents, eventsOf, events, World, after, ran, setUpOf, begun}
-use Rattle.stack_order.specs.Demand.{walked, freeChain, opensAs, standsAt, countedIn, NoneSpoiled, isCalling, Demand3, Holds}
+use Rattle.stack_order.specs.Demand.{walked, freeChain, opensAs, standsAt, countedIn, NoneSpoiled, isCalling, InOrder, Demand3, Holds}
 use Rattle.stack_order.specs.Machine as M
 use Rattle.stack_order.proofs.Lists.{count-cons, below-lt, below-ge, lt-of-below, Chain, count-head}
 use Rattle.stack_order.specs.Model.{place-of, pending, current, ops}
@@ -98,6 +106,7 @@ module _ (capacity : ℕ) (d : Table Shared) (ok : setUpOf capacity d .report .p
       }
 
   begun-good : GoodWorld capacity (begun capacity d)
+  unfolding InOrder
   begun-good =
       let roomy = setup-roomy n capacity (length (d .shared .slots)) (length (d .shared .custody)) verdict in
       let small : capacity ≤ 16777214 = omega (arith, roomy .small) in
@@ -107,7 +116,27 @@ module _ (capacity : ℕ) (d : Table Shared) (ok : setUpOf capacity d .report .p
         few = rw (F .capacity-kept) small;
         sound = subst⁻¹ (λ (k : ℕ). Sound k (stateOf s′ (map (λ (t : Record). idleRecord emptyList) (d .records))) []) (F .capacity-kept) (sound-fresh capacity _ begun-state);
         whole = all-whole (s′ .set .capacity) (d .records);
+        order = tt;
       })
+
+-- which setups are accepted: each capacity of the range, over buffers that are long enough, for as many records as a table may have
+pub sets-up : (capacity : ℕ) (d : Table Shared) → 1 ≤ capacity → capacity ≤ 16777214 → capacity < length (d .shared .slots) → capacity ≤ length (d .shared .custody) → length (d .records) ≤ 16
+    → setUpOf capacity d .report .progress ≡ progress.Accepted
+unfolding setupOf setupVerdict tooLarge setupShort
+sets-up capacity d low high slots custody few =
+    let z : eqb capacity 0 ≡ false = ne-eqb capacity 0 (λ (q : capacity ≡ 0). omega (arith, q, low)) in
+    let passed : AllPassed (testsAtSetup (tooLarge capacity (length (d .shared .slots))) (eqb capacity 0) (setupShort (length (d .records)) capacity (length (d .shared .custody)))) = record {
+      above = simp (le-ltb 16777214 capacity high, lt-leb (length (d .shared .slots)) capacity slots);
+      zero = z;
+      short = simp (le-ltb 16 (length (d .records)) few, le-ltb (length (d .shared .custody)) capacity custody);
+      ready = refl;
+      damaged = refl;
+      known = refl;
+      owner = refl;
+      range = refl;
+      held = refl;
+    } in
+    rw (all-accepted (testsAtSetup (tooLarge capacity (length (d .shared .slots))) (eqb capacity 0) (setupShort (length (d .records)) capacity (length (d .shared .custody)))) passed) refl
 
 -- ---- where a record stands, as the statement has it
 place-is : (cap : ℕ) (l : list.List Record) (r : ℕ) → place-of (map (inRec cap) l) r ≡ standing cap (getD l r (idleRecord emptyList))
@@ -231,6 +260,23 @@ calling-opens cap t w k = by-tests (t .dead) (eqb (t .call .place) 0) k w
     by-tests false true k w = clash k
     by-tests false false k w = w
 
+-- ---- an acquire's look that finds nothing free
+abbrev isOutAnswer : Answer → Bool
+isOutAnswer (answer.Acquired i) = false
+isOutAnswer (answer.NotAcquired OutOfIndices) = true
+isOutAnswer (answer.NotAcquired IsLocked) = false
+isOutAnswer (answer.Released state) = false
+isOutAnswer answer.NotOwned = false
+isOutAnswer answer.NotBorrowed = false
+isOutAnswer (answer.Borrowed k) = false
+isOutAnswer (answer.Locked b) = false
+isOutAnswer (answer.Found k) = false
+isOutAnswer (answer.Recovered state) = false
+
+abbrev isOut : Next → Bool
+isOut (Going p) = false
+isOut (Answered a) = isOutAnswer a
+
 -- ---- the conclusions
 module _ (capacity : ℕ) (w : World) (g : GoodWorld capacity w) where
   abbrev s : Shared
@@ -272,12 +318,29 @@ module _ (capacity : ℕ) (w : World) (g : GoodWorld capacity w) where
       ∙ ap (λ (l : list.List Called). l ++ ops (answeredBy r (w .history))) (ap current (stood r) ∙ called-is (eqb (t .call .place) 0) (openedIn s t))
       ∙ ap (λ (l : list.List Called). map callAt (standsAt s t) ++ l) (ops-is (answeredBy r (w .history)))
 
+  abbrev head : ℕ
+  head = word.headOf (s .set .head)
+
+  judged-now : (nextAt AcquireLook s ≡ Answered (answer.NotAcquired OutOfIndices)) ↔ (freeChain capacity s ≡ [])
+  unfolding acquireLooked walked
+  judged-now = subst (λ (k : ℕ). (cond (leb k head) (Answered (answer.NotAcquired OutOfIndices)) (cond (eqb (word.borrowedOf (s .set .head)) lockAcquire) (Answered (answer.NotAcquired IsLocked)) (Going (AcquireRead (s .set .head)))) ≡ Answered (answer.NotAcquired OutOfIndices)) ↔ (freeChain capacity s ≡ [])) (sym (g .is)) (by-test (ltb head capacity) refl (eqb (word.borrowedOf (s .set .head)) lockAcquire))
+    where
+      by-test : (b : Bool) → ltb head capacity ≡ b → (l : Bool)
+          → (cond (leb capacity head) (Answered (answer.NotAcquired OutOfIndices)) (cond l (Answered (answer.NotAcquired IsLocked)) (Going (AcquireRead (s .set .head)))) ≡ Answered (answer.NotAcquired OutOfIndices)) ↔ (freeChain capacity s ≡ [])
+      by-test true e l = rw (lt-leb capacity head (ltb-true head capacity e), e) (λ q. clash (sym (not-out l) ∙ ap isOut q), λ q. absurd (cons≢nil q))
+        where
+          not-out : (x : Bool) → isOut (cond x (Answered (answer.NotAcquired IsLocked)) (Going (AcquireRead (s .set .head)))) ≡ false
+          not-out true = refl
+          not-out false = refl
+      by-test false e l = rw (le-leb capacity head (ltb-false head capacity e), e) (λ q. refl, λ q. refl)
+
   pub conclude : Demand3 capacity w
   unfolding M.borOf
   conclude = record {
     answers = S .ans;
     counts = counts-are;
     starts = starts-are;
+    in-order = g .order;
     chain = chain-free;
     once = λ i h. rw (chain-free, custody-out) (S .inv .core .part i ∙ below-lt i capacity h);
     nothing-else = λ i h. rw (chain-free, custody-out) (S .inv .core .part i ∙ below-ge i capacity h);
@@ -285,6 +348,8 @@ module _ (capacity : ℕ) (w : World) (g : GoodWorld capacity w) where
     borrowed = λ h. rw custody-out (bits-now (stack .locked) (stack .out) _ (S .inv .core .bor) h);
     locked = λ h. custody-out ∙ nil-of-length (stack .out) (S .inv .core .shut (bits-shut capacity (stack .locked) (stack .free) (stack .out) _ fits (S .inv .core .size) (S .inv .core .bor) h));
     runs-out = runs-out-is (freshStack capacity) calls (S .ans);
+    judges = judged-now;
+    judges-again = λ seen value e. rw e refl;
     none-spoiled = λ r. spoiled-back (countedIn (standsAt s (getD (w .dock .records) r (idleRecord emptyList)))) (answeredBy r (w .history)) (subst NoneSpoiled (counts-are r) (mine-unspoiled r (w .history) (ordered-unspoiled (freshStack capacity) calls (S .ans))));
     none-damaged = λ r k. calling-opens (s .set .capacity) (getD (w .dock .records) r (idleRecord emptyList)) (g .whole r) k;
   }

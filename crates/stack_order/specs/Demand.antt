@@ -19,13 +19,15 @@ use Rattle.plain_places.specs.declared.Place.{Place}
 use Rattle.plain_places.specs.declared.Place.the-variants.{AcquireLook, AcquireRead, AcquireExchange, AcquireWrite, ReleaseLook, ReleaseWrite, ReleaseExchange, BorrowedLook, LockedLook}
 use Rattle.plain_places.specs.declared.Opened.{Opened}
 use Rattle.plain_places.specs.declared.Opened.the-variants.{At, Damaged}
-use Rattle.unique_index_set.specs.Steps.{Shared, openedIn, isDamaged}
+use Rattle.plain_calls.specs.declared.resumes.Next.the-variants.{Answered}
+use Rattle.unique_index_set.specs.Steps.{Shared, sawAt, nextAt, openedIn, isDamaged}
 use Rattle.turns.specs.Docks.{Table}
 use Rattle.stack_order.specs.Stack.{acquire, Call, Stack, count, freshStack, replay, Answers}
 use Rattle.stack_order.specs.History.{Event, callAt, ordered, startedBy, orderedBy, answeredBy, inCustody}
 use Rattle.stack_order.specs.Runs.{Entry, World, ran, setUpOf, begun}
 
--- the free chain, walked from the head through the slots, to the first that is no index
+-- the free chain, walked from the head through the slots, to the first that is no index. It has at most as many as there are indices, so one step more than
+-- those sees its end
 unfoldable pub walked : ℕ → ℕ → List ℕ → ℕ → List ℕ
 walked zero capacity slots at = []
 walked (suc k) capacity slots at = cond (ltb at capacity) (at ∷ walked k capacity slots (getD slots at 0)) []
@@ -33,7 +35,7 @@ walked (suc k) capacity slots at = cond (ltb at capacity) (at ∷ walked k capac
 abbrev pub freeChain : ℕ → Shared → List ℕ
 freeChain capacity s = walked (suc capacity) capacity (s .slots) (headOf (s .set .head))
 
--- where a record stands in its call: nowhere if it is idle
+-- where a record stands in its call: nowhere if it is idle; a dead one where its death met it
 abbrev pub opensAs : Opened → List Place
 opensAs (At p) = p ∷ []
 opensAs Damaged = []
@@ -63,10 +65,16 @@ abbrev pub countedIn : List Place → List Call
 countedIn [] = []
 countedIn (p ∷ ps) = counted p ++ countedIn ps
 
--- in the order: an acquire answers 1 exactly where the stack is then empty
+-- in the order: an acquire answers 1 exactly where nothing of the stack is then free
 unfoldable pub RunsOut : Stack → List Call → Type 0
 RunsOut s [] = Unit {0}
 RunsOut s (c ∷ calls) = (c .called ≡ acquire → (c .answer ≡ answer.NotAcquired OutOfIndices) ↔ (replay s calls .free ≡ [])) × RunsOut s calls
+
+-- at each moment of the history, also within a drain: of each record no more is answered than is ordered, no more is ordered than was started
+unfoldable pub InOrder : List Event → Type 0
+InOrder [] = Unit {0}
+InOrder (e ∷ h) =
+    ((r : ℕ) → (length (answeredBy r (e ∷ h)) ≤ length (orderedBy r (e ∷ h))) × (length (orderedBy r (e ∷ h)) ≤ length (startedBy r (e ∷ h)))) × InOrder h
 
 -- no call was answered with 14
 unfoldable pub NoneSpoiled : List Call → Type 0
@@ -94,21 +102,25 @@ module _ (capacity : ℕ) (w : World) where
     pub answers : Answers (freshStack capacity) calls
     -- of each record, what is ordered is what was answered, with that answer, and at most a call whose exchange won and that is unfinished, or cut by death
     pub counts : (r : ℕ) → orderedBy r (w .history) ≡ countedIn (placesOf w r) ++ answeredBy r (w .history)
-    -- of each record, what was started is what was answered and the call that it is in; so each call's place in the order is between its start and its answer
+    -- of each record, what was started is what was answered and the call that it is in
     pub starts : (r : ℕ) → startedBy r (w .history) ≡ map callAt (placesOf w r) ++ map (λ (c : Call). c .called) (answeredBy r (w .history))
+    -- each call's place in the order is between its start and its answer
+    pub in-order : InOrder (w .history)
     -- the free chain is the stack
     pub chain : freeChain capacity (w .dock .shared) ≡ stack .free
     -- every index is on it once, or in custody by the history, never both; nothing else is
     pub once : (i : ℕ) → i < capacity → count i (freeChain capacity (w .dock .shared)) + count i custody ≡ 1
     pub nothing-else : (i : ℕ) → capacity ≤ i → count i (freeChain capacity (w .dock .shared)) + count i custody ≡ 0
-    -- the custody buffer says the same
+    -- the custody buffer says the same of which are free
     pub buffer : (i : ℕ) → i < capacity → (custodyOf (getD (w .dock .shared .custody) i 0) ≡ Free) ↔ (count i custody ≡ 0)
     -- unless locked, the borrowed count is the number in custody; locked, nothing is in custody
     pub borrowed : (isLockedNow → ⊥) → borrowedOf (w .dock .shared .set .head) ≡ length custody
     pub locked : isLockedNow → custody ≡ []
-    -- an acquire runs out exactly when nothing is free at its judging step
+    -- an acquire runs out exactly when nothing is free at its judging step: in the order, and now, at a look and at an exchange that fails
     pub runs-out : RunsOut (freshStack capacity) calls
-    -- no call answers 14, and no live record is ever damaged, so that 11 is never given
+    pub judges : (nextAt AcquireLook (w .dock .shared) ≡ Answered (answer.NotAcquired OutOfIndices)) ↔ (freeChain capacity (w .dock .shared) ≡ [])
+    pub judges-again : (seen value : ℕ) → sawAt (AcquireExchange seen value) (w .dock .shared) .won ≡ false → nextAt (AcquireExchange seen value) (w .dock .shared) ≡ nextAt AcquireLook (w .dock .shared)
+    -- no call answers 14, and no live record in a call is damaged, which is what 11 is given for
     pub none-spoiled : (r : ℕ) → NoneSpoiled (answeredBy r (w .history))
     pub none-damaged : (r : ℕ) → isCalling (recordAt w r) ≡ true → isDamaged (openedIn (w .dock .shared) (recordAt w r)) ≡ false
 

@@ -18,8 +18,8 @@ use Rattle.plain_calls.specs.declared.resumes.Next.{Next}
 use Rattle.plain_calls.specs.declared.resumes.Next.the-variants.{Going, Answered}
 use Rattle.stack_order.specs.Stack.{Called, acquire, borrowedIndices, isLocked, release, Call, without}
 
--- what an accepted start or step did. `looks`: it looked at the head word (an exchange that fails is a look); `exchanges`: it was an exchange; `wins`: which
--- won; `starts`: the call that it began; `orders`: the call that is ordered here, with its answer; `ends`: the call that it answered
+-- what an accepted start or step did. `looks`: it looked at the head word (an exchange that fails is a look); `exchanges`: it was an exchange; `wins`: it was an exchange
+-- that won; `starts`: the call that it began; `orders`: the call that is ordered here, with its answer; `ends`: the call that it answered
 pub record Event : Type 0 where
   pub by : RecordNumber
   pub looks : Bool
@@ -142,7 +142,7 @@ unfoldable pub answeredBy : ℕ → List Event → List Call
 answeredBy r [] = []
 answeredBy r (e ∷ h) = mine r e (e .ends) (answeredBy r h)
 
--- who has an index: an acquire that is ordered takes it, a release that is ordered brings it back
+-- which indices are out: an acquire that is ordered with an index takes it, a release that is ordered as released brings it back
 abbrev pub custodyAfter : Called → Answer → List ℕ → List ℕ
 custodyAfter acquire (answer.Acquired i) out = i .0 ∷ out
 custodyAfter acquire (answer.NotAcquired why) out = out
@@ -155,7 +155,15 @@ custodyAfter acquire (answer.Found n) out = out
 custodyAfter acquire (answer.Recovered state) out = out
 custodyAfter borrowedIndices a out = out
 custodyAfter isLocked a out = out
-custodyAfter (release i m) a out = without (i .0) out
+custodyAfter (release i m) (answer.Acquired j) out = out
+custodyAfter (release i m) (answer.NotAcquired why) out = out
+custodyAfter (release i m) (answer.Released state) out = without (i .0) out
+custodyAfter (release i m) answer.NotOwned out = out
+custodyAfter (release i m) answer.NotBorrowed out = out
+custodyAfter (release i m) (answer.Borrowed n) out = out
+custodyAfter (release i m) (answer.Locked b) out = out
+custodyAfter (release i m) (answer.Found n) out = out
+custodyAfter (release i m) (answer.Recovered state) out = out
 
 unfoldable pub inCustody : List Call → List ℕ
 inCustody [] = []
