@@ -7,7 +7,7 @@ use mathlib.Core.List.{[], _∷_, _++_, map, append-assoc}
 use native.Mathlib.Omega.{arith}
 use borrow.Author.Tests.{leb-false}
 use lib.Dec.{leb}
-use lib.ListN.{length, getD, set, length-set}
+use lib.ListN.{length, getD, set, length-set, replicate}
 use lib.Seq.{getD-set-same, set-getD, set-set}
 use Rattle.unique_index_set_enums.specs.declared.RecordNumber.{RecordNumber}
 use Rattle.unique_index_set_enums.proofs.Choice.{both-false}
@@ -19,7 +19,7 @@ use Rattle.calls.specs.Runs.{Run, runFrom}
 use Rattle.calls.proofs.Order.{accepted}
 use Rattle.thread_records.specs.declared.OwnerList.{OwnerList}
 use Rattle.thread_records.specs.declared.Record.{Record}
-use Rattle.thread_records.specs.Records.{emptyList, idleRecord, markedDead, notAlive}
+use Rattle.thread_records.specs.Records.{emptyList, idleRecord, markedDead, notAlive, notCalling}
 use Rattle.thread_records.specs.Effects.{Effect, recordJudged}
 use Rattle.thread_records.specs.Deaths.{deathTests, deathOf}
 use Rattle.thread_records.specs.Lists.{listTests, writtenList, withList, listOf}
@@ -33,7 +33,7 @@ use Rattle.turns.specs.Plain.{plainTurnOf}
 use Rattle.turns.specs.Docks.{Table, Turned}
 use Rattle.turns.proofs.Tables.{there}
 use Rattle.stack_order.specs.History.{Event, Young}
-use Rattle.stack_order.specs.Runs.{Entry, stepEvents, stepsEvents, eventsOf, events, World, after, ran}
+use Rattle.stack_order.specs.Runs.{Entry, turned, stepEvents, stepsEvents, eventsOf, events, World, after, ran}
 use Rattle.stack_order.specs.Machine as M
 use Rattle.stack_order.specs.Model.{death-put}
 use Rattle.stack_order.proofs.Sound.{Sound, sound-death}
@@ -228,3 +228,92 @@ module _ (size : ℕ) where
   ran-good w (e ∷ es) g y =
       let r = ran-adds (after w e) es in
       ran-good (after w e) es (after-good w e g (young-older (r .0) (after w e .history) (subst Young (r .1) y))) y
+
+-- ---- a drain leaves the dock and the history that its steps leave, one after another
+abbrev world : Shared → list.List Record → list.List Event → World
+world s records h = record { dock = record { shared = s; records = records }; history = h }
+
+abbrev stepBy : RecordNumber → OwnerList → Entry
+stepBy who brought = record { who = who; operation = Step; brought = brought }
+
+module _ (size : ℕ) (who : RecordNumber) (brought : OwnerList) (records : list.List Record) (low : who .0 < length records) where
+  abbrev next : Effect Shared → Effect Shared
+  next e = again (length records) who e
+
+  abbrev at : Effect Shared → list.List Record
+  at e = set records (who .0) (e .thread)
+
+  steps-on : ℕ → Effect Shared → Effect Shared
+  steps-on zero e = e
+  steps-on (suc k) e = steps-on k (next e)
+
+  left-is : (b k : ℕ) (e : Effect Shared) → runFrom next drains.going b k e .left ≡ steps-on (takes size who records low b e) e
+  unfolding runFrom takes steps-on
+  left-is zero k e = refl
+  left-is (suc b) k e = by-test (drains.going (next e)) (left-is b (k + 1) (next e))
+    where
+      by-test : (x : Bool) → runFrom next drains.going b (k + 1) (next e) .left ≡ steps-on (takes size who records low b (next e)) (next e)
+          → cond x (runFrom next drains.going b (k + 1) (next e)) (record { left = next e; steps = k + 1 }) .left ≡ steps-on (cond x (suc (takes size who records low b (next e))) 1) e
+      by-test true q = q
+      by-test false q = refl
+
+  one-on : (e : Effect Shared) (h : list.List Event) → after (world (e .shared) (at e) h) (stepBy who brought) ≡ world (next e .shared) (at (next e)) (stepEvents (length records) who (e .shared) (e .thread) ++ h)
+  unfolding after
+  one-on e h =
+      ap (λ (d : Turned (Table Shared)). record { dock = d .left; history = events (stepBy who brought) (record { shared = e .shared; records = at e }) ++ h })
+      (sym (there (λ k s t. plainTurnOf k who Step brought s t) who (e .shared) (at e) (plainTurnOf (length (at e)) who Step brought (e .shared) (getD (at e) (who .0) (idleRecord emptyList))) (who .0) refl refl))
+      ∙ ap (λ (k : ℕ). world (stepOf k who (e .shared) (getD (at e) (who .0) (idleRecord emptyList)) .shared) (set (at e) (who .0) (stepOf k who (e .shared) (getD (at e) (who .0) (idleRecord emptyList)) .thread)) (stepEvents k who (e .shared) (getD (at e) (who .0) (idleRecord emptyList)) ++ h)) (length-set records (who .0) (e .thread))
+      ∙ ap (λ (u : Record). world (stepOf (length records) who (e .shared) u .shared) (set (at e) (who .0) (stepOf (length records) who (e .shared) u .thread)) (stepEvents (length records) who (e .shared) u ++ h)) (getD-set-same records (who .0) (e .thread) (idleRecord emptyList) low)
+      ∙ ap (λ (l : list.List Record). world (next e .shared) l (stepEvents (length records) who (e .shared) (e .thread) ++ h)) (set-set records (who .0) (e .thread) (next e .thread))
+
+  steps-ran : (m : ℕ) (e : Effect Shared) (h : list.List Event)
+      → ran (world (e .shared) (at e) h) (replicate m (stepBy who brought)) ≡ world (steps-on m e .shared) (at (steps-on m e)) (stepsEvents m (length records) who (e .shared) (e .thread) ++ h)
+  unfolding ran steps-on stepsEvents
+  steps-ran zero e h = refl
+  steps-ran (suc m) e h =
+      ap (λ (w : World). ran w (replicate m (stepBy who brought))) (one-on e h)
+      ∙ steps-ran m (next e) (stepEvents (length records) who (e .shared) (e .thread) ++ h)
+      ∙ ap (world (steps-on m (next e) .shared) (at (steps-on m (next e)))) (sym (append-assoc (stepsEvents m (length records) who (next e .shared) (next e .thread)) (stepEvents (length records) who (e .shared) (e .thread)) h))
+
+abbrev drainBy : RecordNumber → OwnerList → ℕ → Entry
+drainBy who brought budget = record { who = who; operation = Drain budget; brought = brought }
+
+is-there : (t : Record) (n : ℕ) (who : RecordNumber) → notCalling t n who ≡ false → who .0 < n
+unfolding notCalling notAlive
+is-there t n who e = leb-false n (who .0) (both-false (leb n (who .0)) (both-false (notAlive t n who) e .0) .0)
+
+module _ (who : RecordNumber) (brought : OwnerList) (budget : ℕ) (w : World) where
+  abbrev s : Shared
+  s = w .dock .shared
+
+  abbrev records : list.List Record
+  records = w .dock .records
+
+  abbrev self : Record
+  self = getD records (who .0) (idleRecord emptyList)
+
+  abbrev drain : Verdict → Run (Effect Shared)
+  drain v = drains.drained v (again (length records) who) budget s self
+
+  drain-world : (v : Verdict) → stepJudged (length records) who s self ≡ v
+      → world (drain v .left .shared) (set records (who .0) (drain v .left .thread)) (stepsEvents (drain v .steps) (length records) who s self ++ w .history) ≡ ran w (replicate (drain v .steps) (stepBy who brought))
+  unfolding ran stepsEvents
+  drain-world (Refused why) e = ap (λ (l : list.List Record). world s l (w .history)) (set-getD records (who .0) (idleRecord emptyList))
+  drain-world Accepted e =
+      let low = is-there self (length records) who (step-passed (length records) who (s .set .capacity) (length (s .slots)) (length (s .custody)) (openedIn s self) self e .ready) in
+      let e₀ = drains.begun s self in
+      let k = takes 0 who records low budget e₀ in
+      let q : drain Accepted .steps ≡ k = takes-is 0 who records low budget 0 e₀ ∙ omega arith in
+      ap (λ (u : Effect Shared). world (u .shared) (set records (who .0) (u .thread)) (stepsEvents (drain Accepted .steps) (length records) who s self ++ w .history)) (left-is 0 who brought records low budget 0 e₀)
+      ∙ ap (λ (m : ℕ). world (steps-on 0 who brought records low k e₀ .shared) (set records (who .0) (steps-on 0 who brought records low k e₀ .thread)) (stepsEvents m (length records) who s self ++ w .history)) q
+      ∙ sym (steps-ran 0 who brought records low k e₀ (w .history))
+      ∙ ap (λ (l : list.List Record). ran (world s l (w .history)) (replicate k (stepBy who brought))) (set-getD records (who .0) (idleRecord emptyList))
+      ∙ ap (λ (m : ℕ). ran w (replicate m (stepBy who brought))) (sym q)
+
+  -- so that what is proved after each operation holds after each step of a drain too
+  pub drain-is-steps : ran w (drainBy who brought budget ∷ []) ≡ ran w (replicate (turned (drainBy who brought budget) (w .dock) .steps) (stepBy who brought))
+  unfolding ran after drainOf
+  drain-is-steps =
+      ap (λ (d : Turned (Table Shared)). record { dock = d .left; history = events (drainBy who brought budget) (w .dock) ++ w .history })
+      (sym (there (λ k s t. plainTurnOf k who (Drain budget) brought s t) who s records (plainTurnOf (length records) who (Drain budget) brought s self) (who .0) refl refl))
+      ∙ drain-world (stepJudged (length records) who s self) refl

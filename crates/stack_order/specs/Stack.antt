@@ -25,7 +25,8 @@ pub record Call : Type 0 where
   pub called : Called
   pub answer : Answer
 
--- the free indices, the one to be taken next first; those that are out; whether the set is locked
+-- the free indices, the one to be taken next first; those that are out; whether the set is locked. An index stands here as the number that it is over, so that
+-- it can be counted
 pub record Stack : Type 0 where
   pub free : List ℕ
   pub out : List ℕ
