@@ -1,11 +1,11 @@
 -- What is unread of a buffer, and what stays of it where more comes. Assumes nothing.
 use Prim.Native.Nat.{ℕ, _+_, _-_, _≤_}
-use mathlib.Core.Path.{_≡_, refl, ap, _∙_}
+use mathlib.Core.Path.{_≡_, refl, sym, ap, _∙_}
 use mathlib.Core.Bool.{Bool, true, false, cond}
 use mathlib.Core.List.{List, [], _++_}
 use native.Mathlib.Omega.{arith}
 use borrow.Author.Tests.{ltb-false, leb-true, leb-false, le-ltb, le-leb}
-use lib.Dec.{ltb, leb}
+use lib.Dec.{ltb, leb, eqb}
 use lib.ListN.{length, take, drop, length-drop}
 use lib.Seq.{length-take-le, take-at, take-add}
 use Rattle.schedule.specs.Joining.{keptCount, movedIn, keptIn}
@@ -71,15 +71,17 @@ module _ (input : List ℕ) (f : Feed) where
       let z : filled - 0 ≡ filled = omega arith in
       simp (le-ltb (length input′) filled h, le-leb 0 filled (omega arith)) (ap (λ (k : ℕ). take k input′) z)
 
-  pub refills : (kept count : ℕ) (moved input′ : List ℕ) (last : Bool) → moved ≡ keptIn input (f .from) (f .filled) → kept ≡ n → length moved ≡ length input → length input′ ≡ length moved
-      → kept + count ≤ length moved → take kept input′ ≡ take kept moved → RefilledAs input f (record { from = 0; filled = kept + count; last = last }) input′
-  refills kept count moved input′ last em ek lm li m e =
+  pub refills : (kept count : ℕ) (moved input′ : List ℕ) → moved ≡ keptIn input (f .from) (f .filled) → kept ≡ n → length moved ≡ length input → length input′ ≡ length moved
+      → kept + count ≤ length moved → take kept input′ ≡ take kept moved → RefilledAs input f (record { from = 0; filled = kept + count; last = eqb count 0 }) input′
+  refills kept count moved input′ em ek lm li m e =
+      let came : length (take count (drop kept input′)) ≡ count = length-take-le count (drop kept input′) (omega (arith, m, li, length-drop kept input′)) in
       record {
         from = refl;
         there = omega (arith, m, lm);
         joined = (
           take count (drop kept input′),
-          all-unread input′ (kept + count) last (omega (arith, m, li)) ∙ take-add kept count input′
+          all-unread input′ (kept + count) (eqb count 0) (omega (arith, m, li)) ∙ take-add kept count input′
               ∙ ap (λ (z : List ℕ). z ++ take count (drop kept input′)) (e ∙ ap (take kept) em ∙ ap (λ (k : ℕ). take k (keptIn input (f .from) (f .filled))) ek ∙ kept-unread),
+          sym (ap (λ (k : ℕ). eqb k 0) came),
         );
       }

@@ -127,6 +127,24 @@ taken-next : (n : Next) (events : list.List Event) → ifTaken (reportAfter n .p
 taken-next (Going q) events = refl
 taken-next (Answered a) events = refl
 
+-- ---- what a record that is ready is
+double : (b : Bool) → not b ≡ false → b ≡ true
+double true e = refl
+double false e = sym e
+
+module _ (t : Record) (n : ℕ) (who : RecordNumber) where
+  pub alive : notAlive t n who ≡ false → (who .0 < n) × (t .dead ≡ false)
+  unfolding notAlive
+  alive e = let a = both-false (leb n (who .0)) e in (leb-false n (who .0) (a .0), a .1)
+
+  pub calling : notCalling t n who ≡ false → (who .0 < n) × (t .dead ≡ false) × (eqb (t .call .place) 0 ≡ false)
+  unfolding notCalling
+  calling e = let a = both-false (notAlive t n who) e in (alive (a .0) .0, alive (a .0) .1, a .1)
+
+  resting : notIdle t n who ≡ false → (who .0 < n) × (t .dead ≡ false) × (eqb (t .call .place) 0 ≡ true)
+  unfolding notIdle
+  resting e = let a = both-false (notAlive t n who) e in (alive (a .0) .0, alive (a .0) .1, double (eqb (t .call .place) 0) (a .1))
+
 -- ---- one turn of the record who, which leaves s′ and t′ and one event
 module _ (size : ℕ) (s : Shared) (records : list.List Record) (h : list.List Event) (g : Good size s records h) where
   one-turn : (who : RecordNumber) (s′ : Shared) (t′ : Record) (e : Event) (T : Turned) → who .0 < length records → Turns (s .set .capacity) (stateOf s records) T → s′ .set .capacity ≡ s .set .capacity
@@ -163,22 +181,6 @@ module _ (size : ℕ) (s : Shared) (records : list.List Record) (h : list.List E
     abbrev cap : ℕ
     cap = s .set .capacity
 
-    alive : notAlive t n who ≡ false → (who .0 < n) × (t .dead ≡ false)
-    unfolding notAlive
-    alive e = let a = both-false (leb n (who .0)) e in (leb-false n (who .0) (a .0), a .1)
-
-    pub calling : notCalling t n who ≡ false → (who .0 < n) × (t .dead ≡ false) × (eqb (t .call .place) 0 ≡ false)
-    unfolding notCalling
-    calling e = let a = both-false (notAlive t n who) e in (alive (a .0) .0, alive (a .0) .1, a .1)
-
-    resting : notIdle t n who ≡ false → (who .0 < n) × (t .dead ≡ false) × (eqb (t .call .place) 0 ≡ true)
-    unfolding notIdle
-    resting e = let a = both-false (notAlive t n who) e in (alive (a .0) .0, alive (a .0) .1, double (eqb (t .call .place) 0) (a .1))
-      where
-        double : (b : Bool) → not b ≡ false → b ≡ true
-        double true e = refl
-        double false e = sym e
-
     -- what an effect of a step or a start is to leave
     abbrev Leaves : Effect Shared → list.List Event → Type 0
     Leaves u events = Young (ifTaken (u .report .progress) events ++ h) → Good size (u .shared) (set records (who .0) (u .thread)) (ifTaken (u .report .progress) events ++ h)
@@ -208,7 +210,7 @@ module _ (size : ℕ) (s : Shared) (records : list.List Record) (h : list.List E
         same = same-step who s p
 
         passed : (who .0 < n) × (t .dead ≡ false) × (eqb (t .call .place) 0 ≡ false)
-        passed = calling (step-passed n who cap (length (s .slots)) (length (s .custody)) (openedIn s t) t j .ready)
+        passed = calling t n who (step-passed n who cap (length (s .slots)) (length (s .custody)) (openedIn s t) t j .ready)
 
         got : getD (map (inRec cap) records) (who .0) M.nobody ≡ inRec cap t
         got = map-get (inRec cap) records (who .0) M.nobody (idleRecord emptyList) (passed .0)
@@ -266,13 +268,13 @@ module _ (size : ℕ) (s : Shared) (records : list.List Record) (h : list.List E
 
     module _ (r : notIdle t n who ≡ false) where
       here : getD (map (inRec cap) records) (who .0) M.nobody ≡ inRec cap t
-      here = map-get (inRec cap) records (who .0) M.nobody (idleRecord emptyList) (resting r .0)
+      here = map-get (inRec cap) records (who .0) M.nobody (idleRecord emptyList) (resting t n who r .0)
 
       lives : getD (map (inRec cap) records) (who .0) M.nobody .dead ≡ false
-      lives = ap (λ (x : M.Rec). x .dead) here ∙ resting r .1
+      lives = ap (λ (x : M.Rec). x .dead) here ∙ resting t n who r .1
 
       idles : place-of (map (inRec cap) records) (who .0) ≡ M.idle
-      idles = ap (λ (x : M.Rec). x .place) here ∙ rw (resting r .2) refl
+      idles = ap (λ (x : M.Rec). x .place) here ∙ rw (resting t n who r .2) refl
 
     held-entry : (i : Index) → holds who i (s .custody) ≡ true → getD (s .custody) (i .0) 0 % 256 ≡ 2
     unfolding holds
@@ -295,22 +297,18 @@ module _ (size : ℕ) (s : Shared) (records : list.List Record) (h : list.List E
     unfolding startVerdict
     started-leaves asked.Acquire e y =
         let p = accepted (startTests n who cap (length (s .slots)) (s .custody) asked.Acquire t) e in
-        enter-leaves AcquireLook (s .custody) (startEvent who asked.Acquire) _ (resting (p .ready) .0) refl (acquires (who .0) (lives (p .ready)) (idles (p .ready))) refl refl refl
+        enter-leaves AcquireLook (s .custody) (startEvent who asked.Acquire) _ (resting t n who (p .ready) .0) refl (acquires (who .0) (lives (p .ready)) (idles (p .ready))) refl refl refl
     started-leaves asked.BorrowedIndices e y =
         let p = accepted (startTests n who cap (length (s .slots)) (s .custody) asked.BorrowedIndices t) e in
-        enter-leaves BorrowedLook (s .custody) (startEvent who asked.BorrowedIndices) _ (resting (p .ready) .0) refl (counts-out (who .0) (lives (p .ready)) (idles (p .ready))) refl refl refl
+        enter-leaves BorrowedLook (s .custody) (startEvent who asked.BorrowedIndices) _ (resting t n who (p .ready) .0) refl (counts-out (who .0) (lives (p .ready)) (idles (p .ready))) refl refl refl
     started-leaves asked.IsLocked e y =
         let p = accepted (startTests n who cap (length (s .slots)) (s .custody) asked.IsLocked t) e in
-        enter-leaves LockedLook (s .custody) (startEvent who asked.IsLocked) _ (resting (p .ready) .0) refl (asks (who .0) (lives (p .ready)) (idles (p .ready))) refl refl refl
+        enter-leaves LockedLook (s .custody) (startEvent who asked.IsLocked) _ (resting t n who (p .ready) .0) refl (asks (who .0) (lives (p .ready)) (idles (p .ready))) refl refl refl
     started-leaves (asked.Release i m) e y =
         let p = accepted (startTests n who cap (length (s .slots)) (s .custody) (asked.Release i m) t) e in
         let inside : ltb (i .0) cap ≡ true = release-in n who i m s t e in
-        enter-leaves (ReleaseLook i m) (set (s .custody) (i .0) (M.giving (who .0))) (startEvent who (asked.Release i m)) _ (resting (p .ready) .0) inside
+        enter-leaves (ReleaseLook i m) (set (s .custody) (i .0) (M.giving (who .0))) (startEvent who (asked.Release i m)) _ (resting t n who (p .ready) .0) inside
         (releases (who .0) (i .0) m (lives (p .ready)) (idles (p .ready)) (ltb-true (i .0) cap inside, held-entry i (double (holds who i (s .custody)) (p .held)))) refl refl refl
-      where
-        double : (b : Bool) → not b ≡ false → b ≡ true
-        double true k = refl
-        double false k = sym k
     started-leaves asked.NotKnown e y =
         let p = accepted (startTests n who cap (length (s .slots)) (s .custody) asked.NotKnown t) e in
         clash (sym (p .known))

@@ -5,12 +5,9 @@ use mathlib.Core.Bool.{Bool, true, false, cond}
 use mathlib.Core.List as list
 use mathlib.Core.List.{[], _∷_, _++_, map, append-assoc}
 use native.Mathlib.Omega.{arith}
-use borrow.Author.Tests.{leb-false}
-use lib.Dec.{leb}
 use lib.ListN.{length, getD, set, length-set, replicate}
 use lib.Seq.{getD-set-same, set-getD, set-set}
 use Rattle.unique_index_set_enums.specs.declared.RecordNumber.{RecordNumber}
-use Rattle.unique_index_set_enums.proofs.Choice.{both-false}
 use Rattle.calls.specs.declared.SetKind.the-variants as kind
 use Rattle.calls.specs.declared.Verdict.{Verdict}
 use Rattle.calls.specs.declared.Verdict.the-variants.{Accepted, Refused}
@@ -19,7 +16,7 @@ use Rattle.calls.specs.Runs.{Run, runFrom}
 use Rattle.calls.proofs.Order.{accepted}
 use Rattle.thread_records.specs.declared.OwnerList.{OwnerList}
 use Rattle.thread_records.specs.declared.Record.{Record}
-use Rattle.thread_records.specs.Records.{emptyList, idleRecord, markedDead, notAlive, notCalling}
+use Rattle.thread_records.specs.Records.{emptyList, idleRecord, markedDead, notAlive}
 use Rattle.thread_records.specs.Effects.{Effect, recordJudged}
 use Rattle.thread_records.specs.Deaths.{deathTests, deathOf}
 use Rattle.thread_records.specs.Lists.{listTests, writtenList, withList, listOf}
@@ -38,7 +35,7 @@ use Rattle.stack_order.specs.Machine as M
 use Rattle.stack_order.specs.Model.{death-put}
 use Rattle.stack_order.proofs.Sound.{Sound, sound-death}
 use Rattle.stack_order.proofs.Bridge.{sharedIn}
-use Rattle.stack_order.proofs.Lawful.{inRec, stateOf, damagedAt, Good, map-put, map-get, nothing-done, calling, step-turn, start-turn}
+use Rattle.stack_order.proofs.Lawful.{alive, inRec, stateOf, damagedAt, Good, map-put, map-get, nothing-done, calling, step-turn, start-turn}
 
 -- ---- the premise of a longer history is that of its beginning
 pub young-older : (newer older : list.List Event) → Young (newer ++ older) → Young older
@@ -53,6 +50,24 @@ set-all P (y ∷ l) zero x d a b zero = b
 set-all P (y ∷ l) zero x d a b (suc r) = a (suc r)
 set-all P (y ∷ l) (suc i) x d a b zero = a 0
 set-all P (y ∷ l) (suc i) x d a b (suc r) = set-all P l i x d (λ q. a (suc q)) b r
+
+-- ---- how many steps a drain takes
+module _ (who : RecordNumber) (records : list.List Record) where
+  abbrev step : Effect Shared → Effect Shared
+  step e = again (length records) who e
+
+  takes : ℕ → Effect Shared → ℕ
+  takes zero e = 0
+  takes (suc b) e = cond (drains.going (step e)) (suc (takes b (step e))) 1
+
+  takes-is : (b k : ℕ) (e : Effect Shared) → runFrom step drains.going b k e .steps ≡ k + takes b e
+  unfolding runFrom takes
+  takes-is zero k e = omega arith
+  takes-is (suc b) k e = by-test (drains.going (step e)) (takes-is b (k + 1) (step e))
+    where
+      by-test : (x : Bool) → runFrom step drains.going b (k + 1) (step e) .steps ≡ k + 1 + takes b (step e) → cond x (runFrom step drains.going b (k + 1) (step e)) (record { left = step e; steps = k + 1 }) .steps ≡ k + cond x (suc (takes b (step e))) 1
+      by-test true q = q ∙ omega arith
+      by-test false q = refl
 
 module _ (size : ℕ) (who : RecordNumber) where
   module _ (s : Shared) (records : list.List Record) (h : list.List Event) (g : Good size s records h) where
@@ -85,22 +100,18 @@ module _ (size : ℕ) (who : RecordNumber) where
         by-verdict (Refused why) = nothing-done size s records h g who
         by-verdict Accepted = list-keeps (writtenList brought)
 
-    alive : notAlive t n who ≡ false → (who .0 < n) × (t .dead ≡ false)
-    unfolding notAlive
-    alive e = let a = both-false (leb n (who .0)) e in (leb-false n (who .0) (a .0), a .1)
-
     -- a death marks its record
     death-keeps : notAlive t n who ≡ false → Good size s (set records (who .0) (markedDead t)) h
     death-keeps e = record {
       is = g .is;
       few = g .few;
-      sound = subst (λ (z : list.List M.Rec). Sound cap (record { shared = sharedIn s; recs = z }) h) dead-recs (sound-death cap (g .few) (stateOf s records) h (g .sound) (who .0) (ap (λ (x : M.Rec). x .dead) got ∙ alive e .1));
+      sound = subst (λ (z : list.List M.Rec). Sound cap (record { shared = sharedIn s; recs = z }) h) dead-recs (sound-death cap (g .few) (stateOf s records) h (g .sound) (who .0) (ap (λ (x : M.Rec). x .dead) got ∙ alive t n who e .1));
       whole = set-all (λ (x : Record). damagedAt cap x ≡ false) records (who .0) (markedDead t) (idleRecord emptyList) (g .whole) (g .whole (who .0));
       order = g .order;
     }
       where
         got : getD (map (inRec cap) records) (who .0) M.nobody ≡ inRec cap t
-        got = map-get (inRec cap) records (who .0) M.nobody (idleRecord emptyList) (alive e .0)
+        got = map-get (inRec cap) records (who .0) M.nobody (idleRecord emptyList) (alive t n who e .0)
 
         dead-recs : death-put (stateOf s records) (who .0) .recs ≡ map (inRec cap) (set records (who .0) (markedDead t))
         dead-recs = ap (λ (z : M.Place). set (map (inRec cap) records) (who .0) (record { place = z; dead = true })) (ap (λ (x : M.Rec). x .place) got) ∙ sym (map-put (inRec cap) records (who .0) (markedDead t))
@@ -115,58 +126,41 @@ module _ (size : ℕ) (who : RecordNumber) where
 
   -- ---- a drain, by its steps
   module _ (records : list.List Record) (low : who .0 < length records) where
-    abbrev step : Effect Shared → Effect Shared
-    step e = again (length records) who e
-
     abbrev put : Effect Shared → list.List Record
     put e = set records (who .0) (e .thread)
 
     one-step : (e : Effect Shared) (h : list.List Event) → Good size (e .shared) (put e) h → Young (stepEvents (length records) who (e .shared) (e .thread) ++ h)
-        → Good size (step e .shared) (put (step e)) (stepEvents (length records) who (e .shared) (e .thread) ++ h)
+        → Good size (step who records e .shared) (put (step who records e)) (stepEvents (length records) who (e .shared) (e .thread) ++ h)
     one-step e h g =
-        subst (λ (l : list.List Record). Young (stepEvents (length records) who (e .shared) (e .thread) ++ h) → Good size (step e .shared) l (stepEvents (length records) who (e .shared) (e .thread) ++ h)) (set-set records (who .0) (e .thread) (step e .thread))
+        subst (λ (l : list.List Record). Young (stepEvents (length records) who (e .shared) (e .thread) ++ h) → Good size (step who records e .shared) l (stepEvents (length records) who (e .shared) (e .thread) ++ h)) (set-set records (who .0) (e .thread) (step who records e .thread))
         (subst (λ (u : Record). Young (stepEvents (length records) who (e .shared) u ++ h) → Good size (stepOf (length records) who (e .shared) u .shared) (set (put e) (who .0) (stepOf (length records) who (e .shared) u .thread)) (stepEvents (length records) who (e .shared) u ++ h)) (getD-set-same records (who .0) (e .thread) (idleRecord emptyList) low)
         (subst (λ (k : ℕ). Young (stepEvents k who (e .shared) (getD (put e) (who .0) (idleRecord emptyList)) ++ h)
         → Good size (stepOf k who (e .shared) (getD (put e) (who .0) (idleRecord emptyList)) .shared) (set (put e) (who .0) (stepOf k who (e .shared) (getD (put e) (who .0) (idleRecord emptyList)) .thread)) (stepEvents k who (e .shared) (getD (put e) (who .0) (idleRecord emptyList)) ++ h))
         (length-set records (who .0) (e .thread)) (step-turn size (e .shared) (put e) h g who)))
 
-    -- how many steps a drain takes
-    takes : ℕ → Effect Shared → ℕ
-    takes zero e = 0
-    takes (suc b) e = cond (drains.going (step e)) (suc (takes b (step e))) 1
-
-    takes-is : (b k : ℕ) (e : Effect Shared) → runFrom step drains.going b k e .steps ≡ k + takes b e
-    unfolding runFrom takes
-    takes-is zero k e = omega arith
-    takes-is (suc b) k e = by-test (drains.going (step e)) (takes-is b (k + 1) (step e))
-      where
-        by-test : (x : Bool) → runFrom step drains.going b (k + 1) (step e) .steps ≡ k + 1 + takes b (step e) → cond x (runFrom step drains.going b (k + 1) (step e)) (record { left = step e; steps = k + 1 }) .steps ≡ k + cond x (suc (takes b (step e))) 1
-        by-test true q = q ∙ omega arith
-        by-test false q = refl
-
-    drain-steps : (b k : ℕ) (e : Effect Shared) (h : list.List Event) → Good size (e .shared) (put e) h → Young (stepsEvents (takes b e) (length records) who (e .shared) (e .thread) ++ h)
-        → Good size (runFrom step drains.going b k e .left .shared) (put (runFrom step drains.going b k e .left)) (stepsEvents (takes b e) (length records) who (e .shared) (e .thread) ++ h)
+    drain-steps : (b k : ℕ) (e : Effect Shared) (h : list.List Event) → Good size (e .shared) (put e) h → Young (stepsEvents (takes who records b e) (length records) who (e .shared) (e .thread) ++ h)
+        → Good size (runFrom (step who records) drains.going b k e .left .shared) (put (runFrom (step who records) drains.going b k e .left)) (stepsEvents (takes who records b e) (length records) who (e .shared) (e .thread) ++ h)
     unfolding runFrom takes stepsEvents
     drain-steps zero k e h g y = g
-    drain-steps (suc b) k e h g y = by-test (drains.going (step e)) (drain-steps b (k + 1) (step e)) y
+    drain-steps (suc b) k e h g y = by-test (drains.going (step who records e)) (drain-steps b (k + 1) (step who records e)) y
       where
         here : list.List Event
         here = stepEvents (length records) who (e .shared) (e .thread)
 
         later : ℕ → list.List Event
-        later m = stepsEvents m (length records) who (step e .shared) (step e .thread)
+        later m = stepsEvents m (length records) who (step who records e .shared) (step who records e .thread)
 
         by-test : (x : Bool)
-            → ((h′ : list.List Event) → Good size (step e .shared) (put (step e)) h′ → Young (stepsEvents (takes b (step e)) (length records) who (step e .shared) (step e .thread) ++ h′)
-            → Good size (runFrom step drains.going b (k + 1) (step e) .left .shared) (put (runFrom step drains.going b (k + 1) (step e) .left)) (stepsEvents (takes b (step e)) (length records) who (step e .shared) (step e .thread) ++ h′))
-            → Young (stepsEvents (cond x (suc (takes b (step e))) 1) (length records) who (e .shared) (e .thread) ++ h)
-            → Good size (cond x (runFrom step drains.going b (k + 1) (step e)) (record { left = step e; steps = k + 1 }) .left .shared) (put (cond x (runFrom step drains.going b (k + 1) (step e)) (record { left = step e; steps = k + 1 }) .left))
-            (stepsEvents (cond x (suc (takes b (step e))) 1) (length records) who (e .shared) (e .thread) ++ h)
+            → ((h′ : list.List Event) → Good size (step who records e .shared) (put (step who records e)) h′ → Young (stepsEvents (takes who records b (step who records e)) (length records) who (step who records e .shared) (step who records e .thread) ++ h′)
+            → Good size (runFrom (step who records) drains.going b (k + 1) (step who records e) .left .shared) (put (runFrom (step who records) drains.going b (k + 1) (step who records e) .left)) (stepsEvents (takes who records b (step who records e)) (length records) who (step who records e .shared) (step who records e .thread) ++ h′))
+            → Young (stepsEvents (cond x (suc (takes who records b (step who records e))) 1) (length records) who (e .shared) (e .thread) ++ h)
+            → Good size (cond x (runFrom (step who records) drains.going b (k + 1) (step who records e)) (record { left = step who records e; steps = k + 1 }) .left .shared) (put (cond x (runFrom (step who records) drains.going b (k + 1) (step who records e)) (record { left = step who records e; steps = k + 1 }) .left))
+            (stepsEvents (cond x (suc (takes who records b (step who records e))) 1) (length records) who (e .shared) (e .thread) ++ h)
         by-test true f y′ =
-            let q = append-assoc (stepsEvents (takes b (step e)) (length records) who (step e .shared) (step e .thread)) (stepEvents (length records) who (e .shared) (e .thread)) h in
+            let q = append-assoc (stepsEvents (takes who records b (step who records e)) (length records) who (step who records e .shared) (step who records e .thread)) (stepEvents (length records) who (e .shared) (e .thread)) h in
             let z = subst Young q y′ in
-            subst⁻¹ (λ (l : list.List Event). Good size (runFrom step drains.going b (k + 1) (step e) .left .shared) (put (runFrom step drains.going b (k + 1) (step e) .left)) l) q
-            (f (stepEvents (length records) who (e .shared) (e .thread) ++ h) (one-step e h g (young-older (stepsEvents (takes b (step e)) (length records) who (step e .shared) (step e .thread)) _ z)) z)
+            subst⁻¹ (λ (l : list.List Event). Good size (runFrom (step who records) drains.going b (k + 1) (step who records e) .left .shared) (put (runFrom (step who records) drains.going b (k + 1) (step who records e) .left)) l) q
+            (f (stepEvents (length records) who (e .shared) (e .thread) ++ h) (one-step e h g (young-older (stepsEvents (takes who records b (step who records e)) (length records) who (step who records e .shared) (step who records e .thread)) _ z)) z)
         by-test false f y′ = one-step e h g y′
 
 -- ---- any operation
@@ -185,13 +179,13 @@ module _ (size : ℕ) (s : Shared) (records : list.List Record) (h : list.List E
   drained-leaves b (Refused why) e y = nothing-done size s records h g who
   drained-leaves b Accepted e y =
       let low = steps-here e in
-      let q : runFrom (again N who) drains.going b 0 (drains.begun s T) .steps ≡ takes size who records low b (drains.begun s T) = takes-is size who records low b 0 (drains.begun s T) ∙ omega arith in
+      let q : runFrom (again N who) drains.going b 0 (drains.begun s T) .steps ≡ takes who records b (drains.begun s T) = takes-is who records b 0 (drains.begun s T) ∙ omega arith in
       let z = subst (λ (k : ℕ). Young (stepsEvents k N who s T ++ h)) q y in
       subst⁻¹ (λ (k : ℕ). Good size (runFrom (again N who) drains.going b 0 (drains.begun s T) .left .shared) (set records (who .0) (runFrom (again N who) drains.going b 0 (drains.begun s T) .left .thread)) (stepsEvents k N who s T ++ h)) q
       (drain-steps size who records low b 0 (drains.begun s T) h (nothing-done size s records h g who) z)
     where
       steps-here : stepJudged N who s T ≡ Accepted → who .0 < N
-      steps-here k = calling size s records h g who (step-passed N who (s .set .capacity) (length (s .slots)) (length (s .custody)) (openedIn s T) T k .ready) .0
+      steps-here k = calling T N who (step-passed N who (s .set .capacity) (length (s .slots)) (length (s .custody)) (openedIn s T) T k .ready) .0
 
   pub entry-leaves : (o : Operation) → Leaves size who records h (plainTurnOf N who o brought s T) (eventsOf N who o brought s T)
   unfolding drainOf
@@ -236,7 +230,7 @@ world s records h = record { dock = record { shared = s; records = records }; hi
 abbrev stepBy : RecordNumber → OwnerList → Entry
 stepBy who brought = record { who = who; operation = Step; brought = brought }
 
-module _ (size : ℕ) (who : RecordNumber) (brought : OwnerList) (records : list.List Record) (low : who .0 < length records) where
+module _ (who : RecordNumber) (brought : OwnerList) (records : list.List Record) (low : who .0 < length records) where
   abbrev next : Effect Shared → Effect Shared
   next e = again (length records) who e
 
@@ -247,13 +241,13 @@ module _ (size : ℕ) (who : RecordNumber) (brought : OwnerList) (records : list
   steps-on zero e = e
   steps-on (suc k) e = steps-on k (next e)
 
-  left-is : (b k : ℕ) (e : Effect Shared) → runFrom next drains.going b k e .left ≡ steps-on (takes size who records low b e) e
+  left-is : (b k : ℕ) (e : Effect Shared) → runFrom next drains.going b k e .left ≡ steps-on (takes who records b e) e
   unfolding runFrom takes steps-on
   left-is zero k e = refl
   left-is (suc b) k e = by-test (drains.going (next e)) (left-is b (k + 1) (next e))
     where
-      by-test : (x : Bool) → runFrom next drains.going b (k + 1) (next e) .left ≡ steps-on (takes size who records low b (next e)) (next e)
-          → cond x (runFrom next drains.going b (k + 1) (next e)) (record { left = next e; steps = k + 1 }) .left ≡ steps-on (cond x (suc (takes size who records low b (next e))) 1) e
+      by-test : (x : Bool) → runFrom next drains.going b (k + 1) (next e) .left ≡ steps-on (takes who records b (next e)) (next e)
+          → cond x (runFrom next drains.going b (k + 1) (next e)) (record { left = next e; steps = k + 1 }) .left ≡ steps-on (cond x (suc (takes who records b (next e))) 1) e
       by-test true q = q
       by-test false q = refl
 
@@ -278,10 +272,6 @@ module _ (size : ℕ) (who : RecordNumber) (brought : OwnerList) (records : list
 abbrev drainBy : RecordNumber → OwnerList → ℕ → Entry
 drainBy who brought budget = record { who = who; operation = Drain budget; brought = brought }
 
-is-there : (t : Record) (n : ℕ) (who : RecordNumber) → notCalling t n who ≡ false → who .0 < n
-unfolding notCalling notAlive
-is-there t n who e = leb-false n (who .0) (both-false (leb n (who .0)) (both-false (notAlive t n who) e .0) .0)
-
 module _ (who : RecordNumber) (brought : OwnerList) (budget : ℕ) (w : World) where
   abbrev s : Shared
   s = w .dock .shared
@@ -300,13 +290,13 @@ module _ (who : RecordNumber) (brought : OwnerList) (budget : ℕ) (w : World) w
   unfolding ran stepsEvents
   drain-world (Refused why) e = ap (λ (l : list.List Record). world s l (w .history)) (set-getD records (who .0) (idleRecord emptyList))
   drain-world Accepted e =
-      let low = is-there self (length records) who (step-passed (length records) who (s .set .capacity) (length (s .slots)) (length (s .custody)) (openedIn s self) self e .ready) in
+      let low = calling self (length records) who (step-passed (length records) who (s .set .capacity) (length (s .slots)) (length (s .custody)) (openedIn s self) self e .ready) .0 in
       let e₀ = drains.begun s self in
-      let k = takes 0 who records low budget e₀ in
-      let q : drain Accepted .steps ≡ k = takes-is 0 who records low budget 0 e₀ ∙ omega arith in
-      ap (λ (u : Effect Shared). world (u .shared) (set records (who .0) (u .thread)) (stepsEvents (drain Accepted .steps) (length records) who s self ++ w .history)) (left-is 0 who brought records low budget 0 e₀)
-      ∙ ap (λ (m : ℕ). world (steps-on 0 who brought records low k e₀ .shared) (set records (who .0) (steps-on 0 who brought records low k e₀ .thread)) (stepsEvents m (length records) who s self ++ w .history)) q
-      ∙ sym (steps-ran 0 who brought records low k e₀ (w .history))
+      let k = takes who records budget e₀ in
+      let q : drain Accepted .steps ≡ k = takes-is who records budget 0 e₀ ∙ omega arith in
+      ap (λ (u : Effect Shared). world (u .shared) (set records (who .0) (u .thread)) (stepsEvents (drain Accepted .steps) (length records) who s self ++ w .history)) (left-is who brought records low budget 0 e₀)
+      ∙ ap (λ (m : ℕ). world (steps-on who brought records low k e₀ .shared) (set records (who .0) (steps-on who brought records low k e₀ .thread)) (stepsEvents m (length records) who s self ++ w .history)) q
+      ∙ sym (steps-ran who brought records low k e₀ (w .history))
       ∙ ap (λ (l : list.List Record). ran (world s l (w .history)) (replicate k (stepBy who brought))) (set-getD records (who .0) (idleRecord emptyList))
       ∙ ap (λ (m : ℕ). ran w (replicate m (stepBy who brought))) (sym q)
 

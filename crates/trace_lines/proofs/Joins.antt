@@ -165,15 +165,6 @@ is-runs rests e = no e
 abbrev Follows : Pieced → Stage → Scene → list.List ℕ → list.List ℕ → Type 0
 Follows p st s b m = (text : Text) → Traces (p .stage) (p .scene) (drop (p .used) b ++ m) text → Traces st s (b ++ m) (p .text ++ text)
 
-bad-bad : (e : Entry) → isBad e ≡ true → e ≡ Bad
-bad-bad (Setup e) h = no h
-bad-bad (Start e) h = no h
-bad-bad (Step who) h = no h
-bad-bad (Death who) h = no h
-bad-bad (List e) h = no h
-bad-bad Bad h = refl
-bad-bad Cut h = no h
-
 abbrev isEnd : Closing → Bool
 isEnd closing.Turns = false
 isEnd closing.Waits = false

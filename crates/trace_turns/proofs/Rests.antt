@@ -1,5 +1,5 @@
 -- The bytes that are left stand at the end of those that were given. Assumes nothing.
-use Prim.Native.Nat.{ℕ, zero, suc, _+_, _-_, _≤_}
+use Prim.Native.Nat.{ℕ, zero, suc, _+_, _-_}
 use mathlib.Core.Path.{_≡_, refl, sym, ap, _∙_}
 use mathlib.Core.Bool.{Bool, true, false, cond}
 use mathlib.Core.List.{List, [], _++_, append-assoc}
@@ -35,9 +35,6 @@ went-ends (suc k) room s b at = by-test (goesOn b room at) (went-ends k room (sc
 module _ (b r : List ℕ) (e : EndsWith b r) where
   lengths : length b ≡ length (e .0) + length r
   lengths = ap length (e .1) ∙ length-append (e .0) r
-
-  pub ends-within : length r ≤ length b
-  ends-within = omega (arith, lengths)
 
   pub ends-there : drop (length b - length r) b ≡ r
   ends-there = ap (λ (z : List ℕ). drop (length b - length r) z) (e .1) ∙ drop-at (e .0) r (length b - length r) (omega (arith, lengths))

@@ -35,9 +35,6 @@ roomy bytes room at g = by-test (lacksRoom room at) refl g
     by-test true e h = no h
     by-test false e h = lacking room at e
 
-behind-none : (w : Went) → behind [] w ≡ w
-behind-none w = refl
-
 behind-both : (a b : Text) (w : Went) → behind a (behind b w) ≡ behind (a ++ b) w
 behind-both a b w = ap (λ (t : Text). record { scene = w .scene; rest = w .rest; text = t }) (sym (append-assoc a b (w .text)))
 

@@ -16,7 +16,7 @@ same-length : tie.Need-same-length
 same-length c = search needs
 
 returns : tie.Need-returns
-returns c = refills _ _ _ _ _ _ _ (c .before .before .before .before .before .before .keep .ensures .0 .0) (c .before .before .before .before .before .before .keep .ensures .0 .1) (c .before .before .before .before .before .before .keep .kept .0) (c .before .before .read-behind .kept .1 .0) (c .before .before .read-behind .ensures .0) (c .before .before .read-behind .ensures .1)
+returns c = refills _ _ _ _ _ _ (c .before .before .before .before .before .before .keep .ensures .0 .0) (c .before .before .before .before .before .before .keep .ensures .0 .1) (c .before .before .before .before .before .before .keep .kept .0) (c .before .before .read-behind .kept .1 .0) (c .before .before .read-behind .ensures .0) (c .before .before .read-behind .ensures .1)
 
 pub refilled-spec : {M : Type 1} → statement M
 refilled-spec = tie.close (tie.spec keep-requires read-behind-requires add-t10 same-length returns)
