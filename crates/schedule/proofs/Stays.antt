@@ -13,7 +13,7 @@ use lib.Seq.{length-take-le}
 use Rattle.schedule.specs.declared.ListEntry.{ListEntry}
 use Rattle.schedule.specs.declared.Entry.{Entry}
 use Rattle.schedule.specs.declared.Entry.the-variants.{Setup, Start, Step, Death, List, Bad, Cut}
-use Rattle.schedule.specs.Numbers.{le2, le4, le8}
+use Rattle.byte_numbers.specs.Numbers.{le2, le4, le8}
 use Rattle.schedule.specs.Format.{rightLength, lacksCount, bodyOf, wholeOf, headedOf, entryOf, isWhole, isList, restOf, ownersEnd, ownersOf, firstOwners}
 use Rattle.schedule.specs.Written.{written, InWidth, Bytes}
 use Rattle.schedule.proofs.Laws.{no, Whole, whole, list-fits}

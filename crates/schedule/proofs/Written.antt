@@ -15,7 +15,7 @@ use Rattle.schedule.specs.declared.StartEntry.{StartEntry}
 use Rattle.schedule.specs.declared.ListEntry.{ListEntry}
 use Rattle.schedule.specs.declared.Entry.{Entry}
 use Rattle.schedule.specs.declared.Entry.the-variants.{Setup, Start, Step, Death, List, Bad, Cut}
-use Rattle.schedule.specs.Numbers.{le2, le4, le8}
+use Rattle.byte_numbers.specs.Numbers.{le2, le4, le8}
 use Rattle.schedule.specs.Format.{rightLength, lacksCount, bodyOf, wholeOf, headedOf, entryOf, isWhole, isList, sizeOf, restOf, ownersEnd, ownersOf}
 use Rattle.schedule.specs.Written.{written4, written8, written, InWidth, Bytes}
 use Rattle.schedule.proofs.Laws.{no, Whole, whole}

@@ -9,7 +9,7 @@ use Rattle.unique_index_set_enums.specs.declared.OwnerId.{OwnerId}
 use Rattle.unique_index_set_enums.specs.Kinds.{owner, recordNumber}
 use Rattle.schedule.specs.declared.Entry.{Entry}
 use Rattle.schedule.specs.declared.Entry.the-variants.{Setup, Start, Step, Death, List, Bad, Cut}
-use Rattle.schedule.specs.Numbers.{le2, le4, le8}
+use Rattle.byte_numbers.specs.Numbers.{le2, le4, le8}
 
 -- the length that an entry of a kind says: 8, 17, 3, 3, or 4 + 8 times the owners; there is no other kind
 unfoldable pub rightLength : ℕ → ℕ → ℕ → Bool

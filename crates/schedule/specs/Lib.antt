@@ -1,4 +1,3 @@
-pub mod Numbers
 pub mod Format
 pub mod Written
 pub mod Joining

@@ -1,13 +1,12 @@
 // Reads a schedule: the entry at the front of its bytes, and the rest of them.
 mod joining;
-mod numbers;
 
+use byte_numbers::byte_at;
+use byte_numbers::number2;
+use byte_numbers::number4;
+use byte_numbers::number8;
 use calls::Request;
 pub use joining::keep;
-use numbers::byte_at;
-use numbers::number2;
-use numbers::number4;
-use numbers::number8;
 use unique_index_set_enums::OwnerId;
 use unique_index_set_enums::RecordNumber;
 ghost use mathlib.Core.Path.{_≡_};

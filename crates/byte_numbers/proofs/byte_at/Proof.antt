@@ -1,8 +1,8 @@
 use lib.ListN.{List·getD-eq-default}
 use mathlib.Core.Path.{sym}
 use borrow.Author.Needs.{needs}
-use Rattle.schedule.proofs.numbers.byte_at.Statement.{statement}
-use Rattle.schedule.proofs.numbers.byte_at.Tie as tie
+use Rattle.byte_numbers.proofs.byte_at.Statement.{statement}
+use Rattle.byte_numbers.proofs.byte_at.Tie as tie
 
 shared-slice-read-result : tie.Need-shared-slice-read-result
 shared-slice-read-result c = search needs

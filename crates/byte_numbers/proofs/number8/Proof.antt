@@ -1,17 +1,17 @@
-use Rattle.schedule.specs.Numbers.{le8}
+use Rattle.byte_numbers.specs.Numbers.{le8}
 use native.Mathlib.Omega.{arith}
 use borrow.Author.Needs.{needs}
-use Rattle.schedule.proofs.numbers.number8.Statement.{statement}
-use Rattle.schedule.proofs.numbers.number8.Tie as tie
+use Rattle.byte_numbers.proofs.number8.Statement.{statement}
+use Rattle.byte_numbers.proofs.number8.Tie as tie
 
-number4-requires : tie.Need-number4-requires
-number4-requires c κs = search needs
+four-requires : tie.Need-four-requires
+four-requires c κs = search needs
 
-add-number4 : tie.Need-add-number4
-add-number4 c = search needs
+add-four : tie.Need-add-four
+add-four c = search needs
 
-number4-requires-2 : tie.Need-number4-requires-2
-number4-requires-2 c κs = search needs
+four-requires-2 : tie.Need-four-requires-2
+four-requires-2 c κs = search needs
 
 cast-result : tie.Need-cast-result
 cast-result c = search needs
@@ -33,9 +33,9 @@ pub number8-spec : {M : Type 1} → statement M
 number8-spec =
     tie.close
     (tie.spec
-    number4-requires
-    add-number4
-    number4-requires-2
+    four-requires
+    add-four
+    four-requires-2
     cast-result
     cast-result-2
     mul-result
