@@ -1,11 +1,11 @@
 -- What stored numbers leave, at any width: each is read again, and no other byte changes. Assumes nothing.
-use Prim.Native.Nat.{ℕ, zero, suc, _+_, _-_, _*_, _/_, _%_, _^_, _≤_, _<_}
-use mathlib.Core.Path.{_≡_, refl, sym, _∙_, ap}
+use Prim.Native.Nat.{ℕ, zero, suc, _+_, _-_, _*_, _/_, _%_, _≤_, _<_}
+use mathlib.Core.Path.{_≡_, refl, _∙_, ap}
 use mathlib.Core.List.{List, [], _∷_}
 use native.Mathlib.Omega.{arith}
-use native.Mathlib.Nat.{pow-suc, mul-suc}
+use native.Mathlib.Nat.{mul-suc}
 use lib.ListN.{length, getD, set, drop, length-set, drop-of-length-le}
-use lib.Seq.{getD-set-same, getD-set-other, drop-cons}
+use lib.Seq.{drop-cons}
 use Rattle.record_bytes.specs.Stored.{stored, storedAll}
 
 pub length-stored : (l : List ℕ) (at width v : ℕ) → length (stored l at width v) ≡ length l

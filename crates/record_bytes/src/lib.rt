@@ -2,10 +2,10 @@
 mod put;
 mod read;
 
+use byte_numbers::byte_at;
 use put::put_all;
 use read::read_call;
 use read::read_list;
-use byte_numbers::byte_at;
 use thread_records::Record;
 use unique_index_set_enums::RecordNumber;
 ghost use mathlib.Core.Path.{_≡_};

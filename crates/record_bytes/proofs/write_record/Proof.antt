@@ -7,37 +7,26 @@ use Rattle.record_bytes.specs.Layout.{recordWritten}
 use borrow.Author.Needs.{needs}
 use Rattle.record_bytes.proofs.write_record.Statement.{statement}
 use Rattle.record_bytes.proofs.write_record.Tie as tie
-use Rattle.record_bytes.proofs.write_record.Reads as reads
-use Rattle.record_bytes.proofs.write_record.Lts as lts
-use Rattle.record_bytes.proofs.lay.Reads as lay-reads
-use Rattle.record_bytes.proofs.records_in.Reads as records-in-reads
 
--- src/lib.rt:111:17
 cast-place : tie.Need-cast-place
 cast-place c = search needs
 
--- src/lib.rt:112:16
 records-in-requires : tie.Need-records-in-requires
 records-in-requires c κs = search needs
 
--- src/lib.rt:113:20
 mul-lay : tie.Need-mul-lay
 mul-lay c = search needs
 
--- src/lib.rt:113:9
 lay-requires : tie.Need-lay-requires
 lay-requires c κs = search needs
 
--- src/lib.rt:108:1
 same-length : tie.Need-same-length
 same-length c = search needs
 
--- src/lib.rt:108:1
 returns : tie.Need-returns
 unfolding recordWritten
 returns c = c .before .before .lay .ensures ∙ sym (simp (lt-ltb (c .before .before .before .before .before .before .before .before .args .who .0) (length (c .before .before .before .before .before .before .before .before .args .bytes .now) / 132) (omega (arith, c .before .before .before .before .if1 .taken, c .before .before .before .before .before .records-in .ensures))))
 
--- src/lib.rt:108:1
 returns-2 : tie.Need-returns-2
 unfolding recordWritten
 returns-2 c = sym (simp (le-ltb (c .before .before .before .before .args .who .0) (length (c .before .before .before .before .args .bytes .now) / 132) (omega (arith, c .if1 .left, c .before .records-in .ensures))))

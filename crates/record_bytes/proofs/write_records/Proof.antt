@@ -1,5 +1,5 @@
 use Prim.Native.Nat.{ℕ, _≤_, _-_}
-use mathlib.Core.Path.{_≡_, refl, sym, _∙_, ap}
+use mathlib.Core.Path.{_≡_, refl, _∙_, ap}
 use native.Mathlib.Omega.{arith}
 use lib.ListN.{length}
 use borrow.Author.Needs.{needs}
@@ -7,10 +7,6 @@ use Rattle.record_bytes.specs.Layout.{allWritten}
 use Rattle.record_bytes.proofs.Laid.{length-laid, all-more}
 use Rattle.record_bytes.proofs.write_records.Statement.{statement}
 use Rattle.record_bytes.proofs.write_records.Tie as tie
-use Rattle.record_bytes.proofs.write_records.Reads as reads
-use Rattle.record_bytes.proofs.write_records.Lts as lts
-use Rattle.record_bytes.proofs.lay.Reads as lay-reads
-use Rattle.record_bytes.proofs.records_in.Reads as records-in-reads
 
 abbrev Inv-loop : tie.InvT-loop
 Inv-loop bytes₀ thread records place₀ bytes place =
@@ -19,44 +15,37 @@ Inv-loop bytes₀ thread records place₀ bytes place =
 abbrev μ-loop : tie.MeasureT-loop
 μ-loop bytes₀ thread records place₀ bytes place = records - place
 
--- src/lib.rt:121:9
 records-in-requires : tie.Need-records-in-requires Inv-loop μ-loop
 records-in-requires c κs = search needs
 
--- src/lib.rt:123:5
 loop-holds : tie.Need-loop-holds Inv-loop μ-loop
 unfolding allWritten
 loop-holds c = (search needs, refl, refl)
 
--- src/lib.rt:124:20
 mul-lay : tie.Need-mul-lay Inv-loop μ-loop
 mul-lay c = search needs
 
--- src/lib.rt:124:9
 lay-requires : tie.Need-lay-requires Inv-loop μ-loop
 lay-requires c κs = omega (arith, c .before .loop-test .taken, c .before .before .loop .inv .1, c .before .before .before .records-in .ensures)
 
--- src/lib.rt:125:9
 add-place : tie.Need-add-place Inv-loop μ-loop
 add-place c = search needs
 
--- src/lib.rt:123:5
 loop-less : tie.Need-loop-less Inv-loop μ-loop
 loop-less c = search needs
 
--- src/lib.rt:123:5
 loop-again : tie.Need-loop-again Inv-loop μ-loop
 loop-again c =
     let a = c .before .before .before .before .before .before .before .before .args in
-    let l = c .before .before .before .before .before .loop in
-    (search needs, ap length (c .before .before .lay .ensures) ∙ (length-laid (l .bytes) _ (a .thread) ∙ l .inv .1),
-    c .before .before .lay .ensures ∙ all-more (l .bytes) (a .bytes .now) (l .place) (a .thread) (l .inv .2))
+    let l = c .before .before .before .before .before .loop in (
+      search needs,
+      ap length (c .before .before .lay .ensures) ∙ (length-laid (l .bytes) _ (a .thread) ∙ l .inv .1),
+      c .before .before .lay .ensures ∙ all-more (l .bytes) (a .bytes .now) (l .place) (a .thread) (l .inv .2),
+    )
 
--- src/lib.rt:118:1
 same-length : tie.Need-same-length Inv-loop μ-loop
 same-length c = search needs
 
--- src/lib.rt:118:1
 returns : tie.Need-returns Inv-loop μ-loop
 returns c =
     let l = c .before .loop in

@@ -7,8 +7,6 @@ use Rattle.record_bytes.specs.Stored.{stored}
 use Rattle.record_bytes.proofs.Stores.{stored-turn, stored-end}
 use Rattle.record_bytes.proofs.put.put.Statement.{statement}
 use Rattle.record_bytes.proofs.put.put.Tie as tie
-use Rattle.record_bytes.proofs.put.put.Reads as reads
-use Rattle.record_bytes.proofs.put.put.Lts as lts
 
 abbrev Inv-loop : tie.InvT-loop
 Inv-loop bytes₀ at width value i₀ rest₀ bytes i rest =
@@ -17,41 +15,35 @@ Inv-loop bytes₀ at width value i₀ rest₀ bytes i rest =
 abbrev μ-loop : tie.MeasureT-loop
 μ-loop bytes₀ at width value i₀ rest₀ bytes i rest = width - i
 
--- src/put.rt:13:5
 loop-holds : tie.Need-loop-holds Inv-loop μ-loop
 loop-holds c = (search needs, search needs, simp (add-zero, sub-zero))
 
--- src/put.rt:14:25
 cast-bytes : tie.Need-cast-bytes Inv-loop μ-loop
 cast-bytes c = search needs
 
--- src/put.rt:14:15
 add-bytes : tie.Need-add-bytes Inv-loop μ-loop
 add-bytes c = search needs
 
--- src/put.rt:14:9
 slice-write-bytes : tie.Need-slice-write-bytes Inv-loop μ-loop
 slice-write-bytes c = search needs
 
--- src/put.rt:16:9
 add-i : tie.Need-add-i Inv-loop μ-loop
 add-i c = search needs
 
--- src/put.rt:13:5
 loop-less : tie.Need-loop-less Inv-loop μ-loop
 loop-less c = search needs
 
--- src/put.rt:13:5
 loop-again : tie.Need-loop-again Inv-loop μ-loop
-loop-again c = (search needs, search needs,
-    sym (stored-turn (c .before .loop .bytes) (c .before .before .args .at) (c .before .loop .i) (c .before .before .args .width) (c .before .loop .rest) (c .loop-test .taken))
-    ∙ c .before .loop .inv .2)
+loop-again c = (
+  search needs,
+  search needs,
+  sym (stored-turn (c .before .loop .bytes) (c .before .before .args .at) (c .before .loop .i) (c .before .before .args .width) (c .before .loop .rest) (c .loop-test .taken))
+      ∙ c .before .loop .inv .2,
+)
 
--- src/put.rt:7:1
 same-length : tie.Need-same-length Inv-loop μ-loop
 same-length c = search needs
 
--- src/put.rt:7:1
 returns : tie.Need-returns Inv-loop μ-loop
 returns c =
     sym (stored-end (c .before .loop .bytes) (c .before .before .args .at + c .before .loop .i) (c .before .loop .i) (c .before .before .args .width) (c .before .loop .rest) (c .loop-test .left))

@@ -1,17 +1,14 @@
 use Prim.Native.Nat.{ℕ, _≤_, _-_, _+_, _*_}
 use mathlib.Core.List.{List}
 use mathlib.Core.Path.{_≡_, refl, sym, _∙_, ap}
-use lib.ListN.{length, drop, getD}
+use lib.ListN.{length, drop}
 use native.Mathlib.Omega.{arith}
 use native.Mathlib.Nat.{sub-zero}
 use borrow.Author.Needs.{needs}
-use Rattle.record_bytes.specs.Stored.{stored, storedAll}
+use Rattle.record_bytes.specs.Stored.{storedAll}
 use Rattle.record_bytes.proofs.Stores.{length-stored, all-turn, all-end, all-room}
 use Rattle.record_bytes.proofs.put.put_all.Statement.{statement}
 use Rattle.record_bytes.proofs.put.put_all.Tie as tie
-use Rattle.record_bytes.proofs.put.put_all.Reads as reads
-use Rattle.record_bytes.proofs.put.put_all.Lts as lts
-use Rattle.record_bytes.proofs.put.put.Reads as put-reads
 
 abbrev Inv-loop : tie.InvT-loop
 Inv-loop bytes₀ at width values i₀ place₀ bytes i place =
@@ -23,55 +20,48 @@ Inv-loop bytes₀ at width values i₀ place₀ bytes i place =
 abbrev μ-loop : tie.MeasureT-loop
 μ-loop bytes₀ at width values i₀ place₀ bytes i place = length values - i
 
--- src/put.rt:26:5
 loop-holds : tie.Need-loop-holds Inv-loop μ-loop
 loop-holds c = (search needs, search needs, simp (sub-zero) (c .before .before .pre), refl)
 
--- src/put.rt:27:34
 mul-put : tie.Need-mul-put Inv-loop μ-loop
 mul-put c = search needs
 
--- src/put.rt:27:34
 shared-slice-read-put : tie.Need-shared-slice-read-put Inv-loop μ-loop
 shared-slice-read-put c = search needs
 
--- src/put.rt:27:9
 put-requires : tie.Need-put-requires Inv-loop μ-loop
 put-requires c κs =
     let a = c .before .before .before .before .before .before .args in
     let l = c .before .before .before .loop in
     omega (arith, all-room (l .place) (a .width) (length (a .values .now)) (l .i) _ (c .before .before .loop-test .taken) (l .inv .2), l .inv .1)
 
--- src/put.rt:28:9
 add-place : tie.Need-add-place Inv-loop μ-loop
 add-place c =
     let a = c .before .before .before .before .before .before .before .before .before .args in
     let l = c .before .before .before .before .before .before .loop in
     omega (arith, all-room (l .place) (a .width) (length (a .values .now)) (l .i) _ (c .before .before .before .before .before .loop-test .taken) (l .inv .2), c .before .before .before .before .before .before .before .before .before .fits)
 
--- src/put.rt:29:9
 add-i : tie.Need-add-i Inv-loop μ-loop
 add-i c = search needs
 
--- src/put.rt:26:5
 loop-less : tie.Need-loop-less Inv-loop μ-loop
 loop-less c = search needs
 
--- src/put.rt:26:5
 loop-again : tie.Need-loop-again Inv-loop μ-loop
 loop-again c =
     let a = c .before .before .before .before .before .before .before .before .before .args in
     let l = c .before .before .before .before .before .before .loop in
-    let t = c .before .before .before .before .before .loop-test .taken in
-    (search needs, ap length (c .before .before .put .ensures) ∙ (length-stored (l .bytes) (l .place) (a .width) _ ∙ l .inv .1), all-room (l .place) (a .width) (length (a .values .now)) (l .i) _ t (l .inv .2),
-    ap (λ (b : List ℕ). storedAll (a .width) b (l .place + a .width) (drop (l .i + 1) (a .values .now))) (c .before .before .put .ensures)
-    ∙ (sym (all-turn (a .width) (l .bytes) (l .place) (a .values .now) (l .i) t) ∙ l .inv .3))
+    let t = c .before .before .before .before .before .loop-test .taken in (
+      search needs,
+      ap length (c .before .before .put .ensures) ∙ (length-stored (l .bytes) (l .place) (a .width) _ ∙ l .inv .1),
+      all-room (l .place) (a .width) (length (a .values .now)) (l .i) _ t (l .inv .2),
+      ap (λ (b : List ℕ). storedAll (a .width) b (l .place + a .width) (drop (l .i + 1) (a .values .now))) (c .before .before .put .ensures)
+          ∙ (sym (all-turn (a .width) (l .bytes) (l .place) (a .values .now) (l .i) t) ∙ l .inv .3),
+    )
 
--- src/put.rt:20:1
 same-length : tie.Need-same-length Inv-loop μ-loop
 same-length c = search needs
 
--- src/put.rt:20:1
 returns : tie.Need-returns Inv-loop μ-loop
 returns c =
     let a = c .before .before .before .before .args in

@@ -1,90 +1,64 @@
 use borrow.Author.Needs.{needs}
 use Rattle.record_bytes.proofs.read.read_call.Statement.{statement}
 use Rattle.record_bytes.proofs.read.read_call.Tie as tie
-use Rattle.record_bytes.proofs.read.read_call.Reads as reads
-use Rattle.record_bytes.proofs.read.read_call.Lts as lts
-use Rattle.byte_numbers.proofs.byte_at.Reads as byte-at-reads
-use Rattle.byte_numbers.proofs.number4.Reads as number4-reads
-use Rattle.byte_numbers.proofs.number8.Reads as number8-reads
-use Rattle.record_bytes.proofs.read.read_counting.Reads as read-counting-reads
 
--- src/read.rt:33:31
 add-byte-at : tie.Need-add-byte-at
 add-byte-at c = search needs
 
--- src/read.rt:33:16
 byte-at-requires : tie.Need-byte-at-requires
 byte-at-requires c κs = search needs
 
--- src/read.rt:34:30
 add-byte-at-2 : tie.Need-add-byte-at-2
 add-byte-at-2 c = search needs
 
--- src/read.rt:34:15
 byte-at-requires-2 : tie.Need-byte-at-requires-2
 byte-at-requires-2 c κs = search needs
 
--- src/read.rt:35:37
 add-number4 : tie.Need-add-number4
 add-number4 c = search needs
 
--- src/read.rt:35:22
 number4-requires : tie.Need-number4-requires
 number4-requires c κs = search needs
 
--- src/read.rt:36:30
 add-number8 : tie.Need-add-number8
 add-number8 c = search needs
 
--- src/read.rt:36:15
 number8-requires : tie.Need-number8-requires
 number8-requires c κs = search needs
 
--- src/read.rt:37:31
 add-number4-2 : tie.Need-add-number4-2
 add-number4-2 c = search needs
 
--- src/read.rt:37:16
 number4-requires-2 : tie.Need-number4-requires-2
 number4-requires-2 c κs = search needs
 
--- src/read.rt:38:39
 add-number8-2 : tie.Need-add-number8-2
 add-number8-2 c = search needs
 
--- src/read.rt:38:24
 number8-requires-2 : tie.Need-number8-requires-2
 number8-requires-2 c κs = search needs
 
--- src/read.rt:39:47
 add-number8-3 : tie.Need-add-number8-3
 add-number8-3 c = search needs
 
--- src/read.rt:39:32
 number8-requires-3 : tie.Need-number8-requires-3
 number8-requires-3 c κs = search needs
 
--- src/read.rt:40:34
 add-number4-3 : tie.Need-add-number4-3
 add-number4-3 c = search needs
 
--- src/read.rt:40:19
 number4-requires-3 : tie.Need-number4-requires-3
 number4-requires-3 c κs = search needs
 
--- src/read.rt:41:30
 add-number4-4 : tie.Need-add-number4-4
 add-number4-4 c = search needs
 
--- src/read.rt:41:15
 number4-requires-4 : tie.Need-number4-requires-4
 number4-requires-4 c κs = search needs
 
--- src/read.rt:42:19
 read-counting-requires : tie.Need-read-counting-requires
 read-counting-requires c κs = search needs
 
--- src/read.rt:27:1
 returns : tie.Need-returns
 returns c = cc
 
