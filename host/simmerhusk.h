@@ -11,7 +11,7 @@
 #include <stddef.h>
 #include <stdint.h>
 
-/* A record's bytes, numbers little-endian. A table has as many records as there are whole ones in its bytes, at most 16 of them;
+/* A record's bytes, numbers little-endian. A table has as many records as there are whole ones in its bytes, and more than 16 are refused;
  * what is left over is neither read nor written. Only an accepted call writes a record, and only that of its number; a setup
  * writes all.
  *

@@ -1,0 +1,47 @@
+use Rattle.exports.proofs.Left.{left}
+use Rattle.exports.specs.Plain.{plainLent, plainBegun}
+use Rattle.byte_docks.specs.Plain.{plainCalled}
+use Rattle.turns.specs.declared.Operation.the-variants.{Start}
+use Rattle.unique_index_set_enums.specs.Kinds.{recordNumber, owner}
+use Rattle.thread_records.specs.declared.OwnerList.{OwnerList}
+use mathlib.Core.Path.{_∙_, ap}
+use borrow.Author.Needs.{needs}
+use Rattle.exports.proofs.plain.husk_plain_start.Statement.{statement}
+use Rattle.exports.proofs.plain.husk_plain_start.Tie as tie
+
+empty-list-requires : tie.Need-empty-list-requires
+empty-list-requires c κs = search needs
+
+plain-call-requires : tie.Need-plain-call-requires
+plain-call-requires c κs = search needs
+
+outcome-of-requires : tie.Need-outcome-of-requires
+outcome-of-requires c κs = search needs
+
+same-length : tie.Need-same-length
+same-length c = search needs
+
+same-length-2 : tie.Need-same-length-2
+same-length-2 c = search needs
+
+same-length-3 : tie.Need-same-length-3
+same-length-3 c = search needs
+
+returns : tie.Need-returns
+returns c =
+    let a = c .before .before .before .before .before .before .before .before .before .before .before .before .before .before .before .before .args in
+    left plainBegun _ _ _ (c .outcome-of .ensures)
+    (c .before .before .before .before .before .before .before .before .plain-call .ensures
+    ∙ ap (λ (l : OwnerList). plainCalled (recordNumber (a .who)) (Start (record { call = a .call; «index_or_room» = a .index-or-room; owner = owner (a .owner); mode = a .mode })) l (plainLent (a .capacity) (a .head) (a .slots .now) (a .custody .now)) (a .records .now)) (c .before .before .before .before .before .before .before .before .before .empty-list .ensures))
+
+pub husk-plain-start-spec : {M : Type 1} → statement M
+husk-plain-start-spec =
+    tie.close
+    (tie.spec
+    empty-list-requires
+    plain-call-requires
+    outcome-of-requires
+    same-length
+    same-length-2
+    same-length-3
+    returns)

@@ -1,0 +1,4 @@
+pub mod Outcomes
+pub mod Brought
+pub mod Plain
+pub mod Robust

@@ -1,0 +1,80 @@
+-- What each call of a robust set leaves: each thing that is lent, and the outcome.
+use Prim.Native.Nat.{ℕ}
+use mathlib.Core.List.{List}
+use Rattle.unique_index_set_enums.specs.declared.RecordNumber.{RecordNumber}
+use Rattle.unique_index_set_enums.specs.Kinds.{owner, generation}
+use Rattle.calls.specs.declared.SetKind.the-variants as kind
+use Rattle.thread_records.specs.Records.{emptyList}
+use Rattle.robust_unique_index_set.specs.Steps.{Shared, shared}
+use Rattle.turns.specs.declared.Operation.{Operation}
+use Rattle.turns.specs.declared.Operation.the-variants.{Start, Step, Drain}
+use Rattle.byte_docks.specs.Called.{Called, listedIn}
+use Rattle.byte_docks.specs.Robust.{robustCalled, robustReadied}
+use Rattle.exports.specs.declared.outcomes.Outcome.{Outcome}
+use Rattle.exports.specs.Outcomes.{RecordsLeft, recordsLeft, told}
+use Rattle.exports.specs.Brought.{broughtIn}
+
+-- the set by its capacity and its generation, with the cells that are lent
+abbrev pub robustLent : ℕ → ℕ → List ℕ → Shared
+robustLent capacity g cells = shared (record { capacity = capacity; generation = generation g }) cells
+
+pub record RobustReady : Type 0 where
+  pub outcome : Outcome
+  pub capacity : ℕ
+  pub generation : ℕ
+  pub records : List ℕ
+  pub cells : List ℕ
+
+-- the generation is not lent to a start
+pub record RobustStarted : Type 0 where
+  pub outcome : Outcome
+  pub records : List ℕ
+  pub cells : List ℕ
+
+pub record RobustStepped : Type 0 where
+  pub outcome : Outcome
+  pub generation : ℕ
+  pub records : List ℕ
+  pub cells : List ℕ
+
+abbrev pub robustSet : Outcome → Called Shared → RobustReady
+robustSet o c = record {
+  outcome = o;
+  capacity = c .shared .set .capacity;
+  generation = c .shared .set .generation .0;
+  records = c .records;
+  cells = c .shared .cells;
+}
+
+abbrev pub robustBegun : Outcome → Called Shared → RobustStarted
+robustBegun o c = record {
+  outcome = o;
+  records = c .records;
+  cells = c .shared .cells;
+}
+
+abbrev pub robustMoved : Outcome → Called Shared → RobustStepped
+robustMoved o c = record {
+  outcome = o;
+  generation = c .shared .set .generation .0;
+  records = c .records;
+  cells = c .shared .cells;
+}
+
+-- the setup of a capacity
+abbrev pub robustReady : ℕ → Shared → List ℕ → RobustReady
+robustReady asked s bytes = told robustSet (robustReadied asked s bytes)
+
+-- a call's number, an index or the room, an owner, a mode
+abbrev pub robustStart : RecordNumber → ℕ → ℕ → ℕ → ℕ → Shared → List ℕ → RobustStarted
+robustStart who call at o mode s bytes =
+    told robustBegun (robustCalled who (Start (record { call = call; «index_or_room» = at; owner = owner o; mode = mode })) emptyList s bytes)
+
+abbrev pub robustStep : RecordNumber → Shared → List ℕ → RobustStepped
+robustStep who s bytes = told robustMoved (robustCalled who Step emptyList s bytes)
+
+abbrev pub robustDrain : RecordNumber → ℕ → Shared → List ℕ → RobustStepped
+robustDrain who budget s bytes = told robustMoved (robustCalled who (Drain budget) emptyList s bytes)
+
+abbrev pub robustList : RecordNumber → List ℕ → List ℕ → RecordsLeft
+robustList who owners bytes = recordsLeft (listedIn kind.Robust who (broughtIn owners) bytes)

@@ -1,0 +1,8 @@
+/* What the kit's compiler lacks of <stddef.h>, as far as simmerhusk.h needs it. */
+#ifndef STDDEF_H
+#define STDDEF_H
+
+typedef __SIZE_TYPE__ size_t;
+#define NULL ((void *)0)
+
+#endif

@@ -1,0 +1,9 @@
+/* What the kit's compiler lacks of <stdint.h>, as far as simmerhusk.h needs it. */
+#ifndef STDINT_H
+#define STDINT_H
+
+typedef __UINT8_TYPE__ uint8_t;
+typedef __UINT32_TYPE__ uint32_t;
+typedef __UINT64_TYPE__ uint64_t;
+
+#endif
