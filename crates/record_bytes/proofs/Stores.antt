@@ -1,11 +1,11 @@
 -- What stored numbers leave, at any width: each is read again, and no other byte changes. Assumes nothing.
-use Prim.Native.Nat.{ℕ, zero, suc, _+_, _-_, _*_, _/_, _%_, _≤_, _<_}
+use Prim.Native.Nat.{ℕ, zero, suc, _+_, _-_, _*_, _/_, _%_, _^_, _≤_, _<_}
 use mathlib.Core.Path.{_≡_, refl, _∙_, ap}
 use mathlib.Core.List.{List, [], _∷_}
 use native.Mathlib.Omega.{arith}
-use native.Mathlib.Nat.{mul-suc}
+use native.Mathlib.Nat.{pow-suc, mul-suc, not-suc-le-zero}
 use lib.ListN.{length, getD, set, drop, length-set, drop-of-length-le}
-use lib.Seq.{drop-cons}
+use lib.Seq.{getD-set-same, getD-set-other, drop-cons}
 use Rattle.record_bytes.specs.Stored.{stored, storedAll}
 
 pub length-stored : (l : List ℕ) (at width v : ℕ) → length (stored l at width v) ≡ length l
@@ -50,3 +50,79 @@ all-room place width n i m h room =
     let e : n - i ≡ suc (n - (i + 1)) = omega arith in
     let f : width * (n - i) ≡ width * (n - (i + 1)) + width = ap (λ (j : ℕ). width * j) e ∙ mul-suc width (n - (i + 1)) in
     omega (arith, room, f)
+
+-- a byte before what is stored, or behind it, stays
+pub stored-below : (l : List ℕ) (at width v i : ℕ) → i < at → getD (stored l at width v) i 0 ≡ getD l i 0
+unfolding stored
+stored-below l at zero v i h = refl
+stored-below l at (suc width) v i h =
+    stored-below (set l at (v % 256)) (at + 1) width (v / 256) i (omega arith)
+    ∙ getD-set-other l at i (v % 256) 0 (λ e. omega arith)
+
+pub stored-above : (l : List ℕ) (at width v i : ℕ) → at + width ≤ i → getD (stored l at width v) i 0 ≡ getD l i 0
+unfolding stored
+stored-above l at zero v i h = refl
+stored-above l at (suc width) v i h =
+    stored-above (set l at (v % 256)) (at + 1) width (v / 256) i (omega arith)
+    ∙ getD-set-other l at i (v % 256) 0 (λ e. omega arith)
+
+pub all-below : (width : ℕ) (l : List ℕ) (at : ℕ) (vs : List ℕ) (i : ℕ) → i < at → getD (storedAll width l at vs) i 0 ≡ getD l i 0
+unfolding storedAll
+all-below width l at [] i h = refl
+all-below width l at (v ∷ vs) i h = all-below width (stored l at width v) (at + width) vs i (omega arith) ∙ stored-below l at width v i h
+
+more : (at width n i : ℕ) → at + width * suc n ≤ i → at + width + width * n ≤ i
+more at width n i h = omega (arith, h, mul-suc width n)
+
+pub all-above : (width : ℕ) (l : List ℕ) (at : ℕ) (vs : List ℕ) (i : ℕ) → at + width * length vs ≤ i → getD (storedAll width l at vs) i 0 ≡ getD l i 0
+unfolding storedAll
+all-above width l at [] i h = refl
+all-above width l at (v ∷ vs) i h =
+    let m : at + width + width * length vs ≤ i = more at width (length vs) i h in
+    all-above width (stored l at width v) (at + width) vs i m ∙ stored-above l at width v i (omega (arith, m))
+
+-- the number in so many bytes from a place on
+unfoldable pub loaded : List ℕ → ℕ → ℕ → ℕ
+loaded l at zero = 0
+loaded l at (suc width) = getD l at 0 + 256 * loaded l (at + 1) width
+
+-- what it goes by
+pub loaded-same : (l m : List ℕ) (at width : ℕ) → ((i : ℕ) → i < at + width → at ≤ i → getD l i 0 ≡ getD m i 0) → loaded l at width ≡ loaded m at width
+unfolding loaded
+loaded-same l m at zero same = refl
+loaded-same l m at (suc width) same =
+    let a : getD l at 0 ≡ getD m at 0 = same at (omega arith) (omega arith) in
+    let b : loaded l (at + 1) width ≡ loaded m (at + 1) width =
+    loaded-same l m (at + 1) width (λ (i : ℕ) h k. same i (omega (arith, h)) (omega (arith, k))) in
+    omega (arith, a, b)
+
+pub loaded-stored : (l : List ℕ) (at width v : ℕ) → at + width ≤ length l → v < 256 ^ width → loaded (stored l at width v) at width ≡ v
+unfolding stored loaded
+loaded-stored l at zero v h hv = omega (arith, hv)
+loaded-stored l at (suc width) v h hv =
+    let m : List ℕ = set l at (v % 256) in
+    let small : v / 256 < 256 ^ width = omega (arith, rw pow-suc at hv) in
+    let a : getD (stored m (at + 1) width (v / 256)) at 0 ≡ v % 256 =
+    stored-below m (at + 1) width (v / 256) at (omega arith) ∙ getD-set-same l at (v % 256) 0 (omega arith) in
+    let b : loaded (stored m (at + 1) width (v / 256)) (at + 1) width ≡ v / 256 =
+    loaded-stored m (at + 1) width (v / 256) (omega (arith, length-set l at (v % 256))) small in
+    omega arith
+
+-- each of those stored is loaded
+pub all-loaded : (width : ℕ) (l : List ℕ) (at : ℕ) (vs : List ℕ) (i : ℕ) → ((j : ℕ) → getD vs j 0 < 256 ^ width) → at + width * length vs ≤ length l
+    → i < length vs → loaded (storedAll width l at vs) (at + width * i) width ≡ getD vs i 0
+unfolding storedAll
+all-loaded width l at [] i small room h = absurd (not-suc-le-zero h)
+all-loaded width l at (v ∷ vs) zero small room h =
+    let s : List ℕ = stored l at width v in
+    let e : at + width * 0 ≡ at = omega arith in
+    let r : at + width + width * length vs ≤ length l = more at width (length vs) (length l) room in
+    rw e
+    (loaded-same (storedAll width s (at + width) vs) s at width (λ (j : ℕ) b k. all-below width s (at + width) vs j b)
+    ∙ loaded-stored l at width v (omega (arith, r)) (small 0))
+all-loaded width l at (v ∷ vs) (suc i) small room h =
+    let s : List ℕ = stored l at width v in
+    let e : at + width * suc i ≡ at + width + width * i = omega (arith, mul-suc width i) in
+    let r : at + width + width * length vs ≤ length l = more at width (length vs) (length l) room in
+    rw e
+    (all-loaded width s (at + width) vs i (λ (j : ℕ). small (suc j)) (omega (arith, r, length-stored l at width v)) (omega (arith, h)))

@@ -1,5 +1,6 @@
 -- A thread record as 132 bytes: 4 fields of one byte, 6 of four, 13 of eight, in this order; and a table of them.
-use Prim.Native.Nat.{ℕ, zero, suc, _+_, _*_, _/_}
+use Prim.Native.Nat.{ℕ, zero, suc, _+_, _*_, _/_, _^_, _<_}
+use mathlib.Core.Path.{_≡_}
 use mathlib.Core.Bool.{Bool, true, false, cond, not}
 use mathlib.Core.List.{List, [], _∷_}
 use lib.Dec.{eqb, ltb}
@@ -96,6 +97,14 @@ recordAt l at = record { dead = not (eqb (getD l at 0) 0); call = callAt l at; l
 abbrev pub recordsIn : List ℕ → ℕ
 recordsIn l = length l / 132
 
+-- so many of them from a place on, and all
+abbrev pub recordsFrom : List ℕ → ℕ → ℕ → List Record
+recordsFrom l k zero = []
+recordsFrom l k (suc n) = recordAt l (132 * k) ∷ recordsFrom l (k + 1) n
+
+unfoldable pub tableOf : List ℕ → List Record
+tableOf l = recordsFrom l 0 (recordsIn l)
+
 -- one record written, where it is there
 unfoldable pub recordWritten : List ℕ → ℕ → Record → List ℕ
 recordWritten l place t = cond (ltb place (recordsIn l)) (laidAt l (132 * place) t) l
@@ -104,3 +113,10 @@ recordWritten l place t = cond (ltb place (recordsIn l)) (laidAt l (132 * place)
 unfoldable pub allWritten : ℕ → List ℕ → Record → List ℕ
 allWritten zero l t = l
 allWritten (suc n) l t = laidAt (allWritten n l t) (132 * n) t
+
+-- its numbers are of their widths, and there are eight owners beside its list's count
+pub record Fits (t : Record) : Type 0 where
+  pub narrow : (i : ℕ) → getD (narrowFields t) i 0 < 256 ^ 1
+  pub middle : (i : ℕ) → getD (middleFields t) i 0 < 256 ^ 4
+  pub wide : (i : ℕ) → getD (wideFields t) i 0 < 256 ^ 8
+  pub eight : length (t .list .owners) ≡ 8
