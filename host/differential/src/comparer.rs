@@ -1,0 +1,285 @@
+//! The port's side: turns are asked for ahead, in batches, and each reply is held against what the Rust
+//! did. The first difference ends the run.
+
+use std::collections::VecDeque;
+use std::fmt::Debug;
+
+use simmerhusk::raw::{Buffers, Dock, Op, Port, RECORD_BYTES, Reply};
+
+use crate::coverage::Coverage;
+use crate::expected::{Contents, Expected, Named, REFUSED};
+use crate::places::{access_at, call_at};
+use crate::record_bytes::RecordBytes;
+use crate::shadow::List;
+use crate::show;
+
+const BATCH_TURNS: usize = 4096;
+const BATCH_ENTRIES: usize = 1 << 20;
+const LOGGED: usize = 400;
+
+enum Entry {
+    Loaded { title: String, dock: Dock },
+    Turn(Expected),
+}
+
+pub struct Comparer {
+    port: Port,
+    seed: u64,
+    reply: Reply,
+    queue: VecDeque<Entry>,
+    short: Vec<u32>,
+    long: Vec<u64>,
+    /// The records' bytes after the turn before.
+    pub records: Vec<u8>,
+    title: String,
+    loaded: String,
+    log: VecDeque<Op>,
+    turns: u64,
+    pub coverage: Coverage,
+}
+
+impl Comparer {
+    pub fn new(port: Port, seed: u64) -> Self {
+        Self {
+            port,
+            seed,
+            reply: Reply::default(),
+            queue: VecDeque::new(),
+            short: Vec::new(),
+            long: Vec::new(),
+            records: Vec::new(),
+            title: String::new(),
+            loaded: String::new(),
+            log: VecDeque::new(),
+            turns: 0,
+            coverage: Coverage::new(),
+        }
+    }
+
+    pub fn load(&mut self, title: &str, dock: &Dock) {
+        self.port.load(dock);
+        let kept = Dock {
+            records: dock.records.clone(),
+            ..show::small(dock)
+        };
+        self.queue.push_back(Entry::Loaded {
+            title: title.to_string(),
+            dock: kept,
+        });
+    }
+
+    pub fn keep_short(&mut self, own: &[u32], beyond: &[u32]) -> (usize, usize) {
+        let first = self.short.len();
+        self.short.extend_from_slice(own);
+        self.short.extend_from_slice(beyond);
+        (first, self.short.len())
+    }
+
+    pub fn keep_long(&mut self, own: &[u64], beyond: &[u64]) -> (usize, usize) {
+        let first = self.long.len();
+        self.long.extend_from_slice(own);
+        self.long.extend_from_slice(beyond);
+        (first, self.long.len())
+    }
+
+    pub fn expect(&mut self, expected: Expected) {
+        self.port.queue(&expected.op);
+        self.queue.push_back(Entry::Turn(expected));
+        if self.queue.len() >= BATCH_TURNS || self.short.len() + self.long.len() >= BATCH_ENTRIES {
+            self.catch_up();
+        }
+    }
+
+    /// Compares all that was asked for.
+    pub fn catch_up(&mut self) {
+        self.port.flush();
+        while let Some(entry) = self.queue.pop_front() {
+            match entry {
+                Entry::Loaded { title, dock } => self.begin(title, dock),
+                Entry::Turn(expected) => self.compare(&expected),
+            }
+        }
+        self.short.clear();
+        self.long.clear();
+    }
+
+    fn begin(&mut self, title: String, dock: Dock) {
+        self.title = title;
+        self.loaded = show::dock(&dock);
+        self.records = dock.records;
+        self.log.clear();
+        self.turns = 0;
+    }
+
+    fn compare(&mut self, expected: &Expected) {
+        self.port.reply(&mut self.reply);
+        self.turns += 1;
+        if self.log.len() == LOGGED {
+            self.log.pop_front();
+        }
+        self.log.push_back(expected.op.clone());
+        if expected.only_accepted {
+            let progress = self.reply.outcome.progress;
+            self.check("refused", &false, &(progress == REFUSED));
+        } else {
+            self.compare_whole(expected);
+        }
+        let place = named_place(&self.records, &expected.op);
+        self.coverage.note(expected, place);
+        self.records.clone_from(&self.reply.dock.records);
+    }
+
+    fn compare_whole(&self, expected: &Expected) {
+        let reply = &self.reply;
+        self.check("outcome", &expected.outcome, &reply.outcome);
+        self.check("capacity", &expected.capacity, &reply.dock.capacity);
+        self.check("word", &expected.word, &reply.dock.word);
+        match expected.contents {
+            Contents::Digests(digests) => self.check("digests", &digests, &reply.digests),
+            Contents::Whole {
+                slots,
+                custody,
+                cells,
+            } => match &reply.dock.buffers {
+                Buffers::Plain {
+                    slots: ported_slots,
+                    custody: ported_custody,
+                } => {
+                    let (wanted_slots, wanted_custody) = (
+                        &self.short[slots.0..slots.1],
+                        &self.short[custody.0..custody.1],
+                    );
+                    self.check("slots", wanted_slots, ported_slots.as_slice());
+                    self.check("custody", wanted_custody, ported_custody.as_slice());
+                }
+                Buffers::Robust {
+                    cells: ported_cells,
+                } => self.check(
+                    "cells",
+                    &self.long[cells.0..cells.1],
+                    ported_cells.as_slice(),
+                ),
+            },
+        }
+        self.compare_records(expected);
+    }
+
+    fn compare_records(&self, expected: &Expected) {
+        let records = &self.reply.dock.records;
+        let length = (self.records.len(), records.len());
+        self.check("length of the records", &length.0, &length.1);
+        let who = who_of(&expected.op).map_or(usize::MAX, usize::from);
+        for (number, (before, after)) in self
+            .records
+            .chunks(RECORD_BYTES)
+            .zip(records.chunks(RECORD_BYTES))
+            .enumerate()
+        {
+            match expected.named {
+                Named::AllIdle if before.len() == RECORD_BYTES => {
+                    self.check("record", [0; RECORD_BYTES].as_slice(), after);
+                }
+                Named::Poked => {}
+                named if number == who && named != Named::Same => {
+                    self.compare_named(expected, before, after);
+                }
+                _ => self.check("record", before, after),
+            }
+        }
+        if let (Named::Poked, Op::PokeRecords(at, bytes)) = (expected.named, &expected.op) {
+            let mut wanted = self.records.clone();
+            wanted[*at as usize..*at as usize + bytes.len()].copy_from_slice(bytes);
+            self.check("records", &wanted, records);
+        }
+    }
+
+    fn compare_named(&self, expected: &Expected, before: &[u8], after: &[u8]) {
+        match expected.named {
+            Named::Idle(list) => {
+                let mut wanted = [0; RECORD_BYTES];
+                write_list(&mut wanted, list);
+                self.check("idle record", wanted.as_slice(), after);
+            }
+            Named::Listed(list) => {
+                let mut wanted = before.to_vec();
+                write_list(&mut wanted, list);
+                self.check("listed record", wanted.as_slice(), after);
+            }
+            Named::Dead => {
+                self.check("dead", &true, &(after[0] != 0));
+                self.check("dead record", &before[1..], &after[1..]);
+            }
+            Named::Before(call, access, list) => {
+                let mut wanted = after.to_vec();
+                wanted[0] = 0;
+                write_list(&mut wanted, list);
+                self.check("living record, list", wanted.as_slice(), after);
+                let record = RecordBytes::of(after);
+                let place = record.place();
+                self.check(
+                    "call of the place",
+                    &Some(call),
+                    &call_at(expected.kind, place),
+                );
+                let ported = access_at(expected.kind, record);
+                self.check("access next", &Some(access), &ported);
+            }
+            Named::Same | Named::AllIdle | Named::Poked => {}
+        }
+    }
+
+    fn check<T: PartialEq + Debug + ?Sized>(&self, what: &str, rust: &T, port: &T) {
+        if rust != port {
+            self.differ(&format!(
+                "{what}\n  expected, by the Rust or document 01: {rust:x?}\n  the port: {port:x?}"
+            ));
+        }
+    }
+
+    /// Compares what is still queued, and then ends with a difference of the Rust's side.
+    pub fn stop(&mut self, why: &str) -> ! {
+        self.catch_up();
+        self.differ(why)
+    }
+
+    pub fn differ(&self, what: &str) -> ! {
+        println!("difference in scene: {} (seed {})", self.title, self.seed);
+        println!("{}", self.loaded);
+        let skipped = self.turns - self.log.len() as u64;
+        if skipped > 0 {
+            println!("  ({skipped} earlier turns)");
+        }
+        for op in &self.log {
+            println!("  {}", show::op(op));
+        }
+        println!("after turn {}: {what}", self.turns);
+        std::process::exit(1)
+    }
+}
+
+fn who_of(op: &Op) -> Option<u8> {
+    match op {
+        Op::Start { who, .. }
+        | Op::Step { who }
+        | Op::Drain { who, .. }
+        | Op::List { who, .. }
+        | Op::Death { who } => Some(*who),
+        _ => None,
+    }
+}
+
+fn named_place(records: &[u8], op: &Op) -> u8 {
+    let Some(who) = who_of(op) else { return 0 };
+    match records.get(who as usize * RECORD_BYTES + 1) {
+        Some(place) => *place,
+        None => 0,
+    }
+}
+
+fn write_list(record: &mut [u8], list: List) {
+    record[3] = list.count;
+    for (number, owner) in list.owners.iter().enumerate() {
+        let at = 68 + 8 * number;
+        record[at..at + 8].copy_from_slice(&owner.to_le_bytes());
+    }
+}
