@@ -369,7 +369,7 @@ impl Bench {
         }
     }
 
-    /// Custody by document 01's rules, and the call's answer, if this step gave it.
+    /// Custody by the scope's rules, and the call's answer, if this step gave it.
     fn after_step(&mut self, who: u8, request: &Request, moved: &Moved) -> Option<Answer> {
         let answer = match moved.ending {
             None => None,

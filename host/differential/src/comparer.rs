@@ -231,7 +231,7 @@ impl Comparer {
     fn check<T: PartialEq + Debug + ?Sized>(&self, what: &str, rust: &T, port: &T) {
         if rust != port {
             self.differ(&format!(
-                "{what}\n  expected, by the Rust or document 01: {rust:x?}\n  the port: {port:x?}"
+                "{what}\n  expected, by the Rust or the scope: {rust:x?}\n  the port: {port:x?}"
             ));
         }
     }

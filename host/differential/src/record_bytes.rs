@@ -1,4 +1,4 @@
-//! A thread record's bytes, and what document 01 says of those that no call may leave (refusal 11).
+//! A thread record's bytes, and what the scope says of those that no call may leave (refusal 11).
 
 pub use simmerhusk::raw::RECORD_BYTES;
 

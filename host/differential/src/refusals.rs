@@ -1,4 +1,4 @@
-//! The refusal that document 01 asks for, in its order: 3, 4, 10, 9, 11, 13, 5, 7, 8.
+//! The refusal that the scope asks for, in its order: 3, 4, 10, 9, 11, 13, 5, 7, 8.
 
 use oracle_paused::{Call, LIST_LIMIT};
 use simmerhusk::raw::Op;

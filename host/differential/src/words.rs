@@ -1,4 +1,4 @@
-//! The plain set's head word and a custody entry, in document 01's bits and bytes.
+//! The plain set's head word and a custody entry, in the scope's bits and bytes.
 
 pub const LOCKED: u32 = 0x00ff_ffff;
 

@@ -1,4 +1,4 @@
-//! The calls in the numbers of document 01, made on either set.
+//! The calls in the numbers of the scope, made on either set.
 
 use crate::callback_progression::CallbackProgression;
 use crate::mpmc::robust_unique_index_set::{OwnerId, RobustUniqueIndexSet};

@@ -1,4 +1,4 @@
-//! Records with bytes that no call left there: refused with 11 or 9 exactly where document 01 says so,
+//! Records with bytes that no call left there: refused with 11 or 9 exactly where the scope says so,
 //! and then nothing has changed.
 
 use simmerhusk::raw::{Op, RECORD_BYTES};

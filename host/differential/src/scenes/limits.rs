@@ -1,4 +1,4 @@
-//! Every limit of document 01, both sides of each.
+//! Every limit of the scope, both sides of each.
 
 use simmerhusk::raw::{Buffers, Dock, Op, RECORD_BYTES};
 

@@ -23,10 +23,10 @@ pub const RECOVER: u8 = 6;
 /// More steps than any call alone takes at the capacities that it is used with.
 const PLENTY: u32 = 100_000;
 
-/// A number and a value that document 01 states, held against the Rust's.
+/// A number and a value that the scope states, held against the Rust's.
 pub fn stated<T: PartialEq + std::fmt::Debug>(bench: &mut Bench, what: &str, wanted: T, found: T) {
     if wanted != found {
-        let why = format!("document 01 states of {what}: {wanted:x?}; the Rust: {found:x?}");
+        let why = format!("the scope states of {what}: {wanted:x?}; the Rust: {found:x?}");
         bench.comparer().stop(&why);
     }
 }

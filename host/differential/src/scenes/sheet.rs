@@ -1,4 +1,4 @@
-//! Document 01's bench sheet, and what it asks to be run and compared beside it.
+//! The scope's bench sheet, and what it asks to be run and compared beside it.
 
 use simmerhusk::raw::Op;
 

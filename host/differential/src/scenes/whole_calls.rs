@@ -81,7 +81,7 @@ fn refused(bench: &mut Bench, form: &str, kind: Kind, capacity: u32, number: u32
     bench.load(form, &fresh(kind, limit, 1));
     let outcome = bench.make(Op::Setup { asked: capacity });
     if outcome.number != number {
-        let why = format!("{form} refuses {capacity} with {number}, document 01 with {outcome:?}");
+        let why = format!("{form} refuses {capacity} with {number}, the scope with {outcome:?}");
         bench.comparer().stop(&why);
     }
 }

@@ -1,4 +1,4 @@
-//! Document 01's bench sheet by the oracle alone.
+//! The scope's bench sheet by the oracle alone.
 
 mod common;
 

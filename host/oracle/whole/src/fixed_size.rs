@@ -15,7 +15,7 @@ use crate::requests::{
 };
 use crate::whole_set::WholeSet;
 
-/// The number that document 01 has for a capacity that is refused.
+/// The number that the scope has for a capacity that is refused.
 fn refusal(error: UniqueIndexCreationError) -> u32 {
     match error {
         UniqueIndexCreationError::ProvidedCapacityGreaterThanMaxCapacity => 3,
@@ -23,7 +23,7 @@ fn refusal(error: UniqueIndexCreationError) -> u32 {
     }
 }
 
-/// The number for a capacity that the source panics at: no refusal of document 01's has it.
+/// The number for a capacity that the source panics at: no refusal of the scope's has it.
 pub const PANICKED: u32 = 0;
 
 fn made<Set: WholeSet + 'static>(

@@ -1,4 +1,4 @@
-//! Document 01's bench sheet by whole calls, and the sets of fixed size.
+//! The scope's bench sheet by whole calls, and the sets of fixed size.
 
 use oracle_whole::{Answer, Call, LIST_LIMIT, Report, Request, WholeSet};
 
