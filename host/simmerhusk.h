@@ -2,7 +2,7 @@
  *
  * Both index sets, one shared access at a time: a set is its capacity and its word (the plain set's head word, the robust set's
  * generation), its buffers are lent, and its thread records stand in a lent table of bytes. Every call takes whatever comes: it ends
- * in a result or in a numbered refusal, and a refused call writes nothing. No lent buffer may overlap another. Null is a buffer of
+ * in a result or in a numbered refusal, and a refused call changes nothing. No lent buffer may overlap another. Null is a buffer of
  * length 0 only.
  */
 #ifndef SIMMERHUSK_H
@@ -11,9 +11,9 @@
 #include <stddef.h>
 #include <stdint.h>
 
-/* A record's bytes, numbers little-endian. A table has as many records as there are whole ones in its bytes, and more than 16 are refused;
- * what is left over is neither read nor written. Only an accepted call writes a record, and only that of its number; a setup
- * writes all.
+/* A record's bytes, numbers little-endian. A table has as many records as there are whole ones in its bytes, and more than 16 are
+ * refused; what is left over is not written, and nothing depends on it. A call that is not refused writes the record of its number
+ * and no other; a setup that is accepted writes all.
  *
  *    0   1  dead: 0 alive, anything else dead        28   8  seen, the plain set's word
  *    1   1  place: 0 no call                         36   8  owner

@@ -1,11 +1,12 @@
--- The calls over a table of bytes: a refused one changes nothing, the other records' bytes stay, each is the dock's own turn or setup on the
--- table that the bytes are read as, and any two results that a contract allows are the same. Assumes nothing.
+-- The calls over a table of bytes: a refused one changes nothing, the other records' bytes stay, each is the dock's own turn on the table that the
+-- bytes are read as, if the record that it leaves fits its bytes, and any two results that a contract allows are the same. Assumes nothing.
 use Prim.Native.Nat.{ℕ, _+_, _*_, _≤_, _<_}
 use mathlib.Core.Path.{_≡_, refl, sym, _∙_, ap}
 use mathlib.Core.Bool.{Bool, true, false, cond}
 use mathlib.Core.Logic.{_⊎_, inl, inr}
 use mathlib.Core.List.{List}
 use native.Mathlib.Omega.{arith}
+use borrow.Author.Tests.{le-ltb}
 use lib.Dec.{ltb}
 use lib.ListN.{length, getD, set}
 use lib.Seq.{set-getD}
@@ -14,11 +15,14 @@ use Rattle.calls.specs.declared.Progress.{Progress}
 use Rattle.calls.specs.declared.Progress.the-variants as progress
 use Rattle.calls.specs.declared.Refusal.{Refusal}
 use Rattle.calls.specs.declared.Report.{Report}
+use Rattle.calls.specs.declared.SetKind.{SetKind}
 use Rattle.calls.specs.Runs.{Run}
 use Rattle.thread_records.specs.declared.OwnerList.{OwnerList}
 use Rattle.thread_records.specs.declared.Record.{Record}
 use Rattle.thread_records.specs.Records.{emptyList, idleRecord}
 use Rattle.thread_records.specs.Effects.{Effect}
+use Rattle.thread_records.specs.Deaths.{deathOf}
+use Rattle.thread_records.specs.Lists.{listOf}
 use Rattle.thread_records.proofs.Effects.{Harmless}
 use Rattle.thread_records.proofs.Determined.{determined}
 use Rattle.unique_index_set.specs.Steps as plain
@@ -34,9 +38,14 @@ use Rattle.turns.proofs.Tables as tables
 use Rattle.record_bytes.specs.Layout.{Fits, recordAt, recordsIn, tableOf, laidAt, recordWritten}
 use Rattle.record_bytes.proofs.Laid.{laid-before, laid-behind}
 use Rattle.record_bytes.proofs.Tables.{in-table, length-all-of, table-written}
-use Rattle.byte_docks.specs.Called.{Called, Noted, named, recordsAfter, calledBy}
+use Rattle.byte_docks.specs.Called.{Called, RecordsAlone, named, recordsAfter, calledBy, diedIn, listedIn}
 use Rattle.byte_docks.specs.Plain.{plainCame, plainCalled}
 use Rattle.byte_docks.specs.Robust.{robustCame, robustCalled}
+
+abbrev kindOf : Progress → ℕ
+kindOf progress.Accepted = 0
+kindOf (progress.Answered a) = 2
+kindOf (progress.Refused why) = 1
 
 -- what a refused call leaves
 pub record Unmoved {S : Type 0} (s : S) (bytes : List ℕ) (c : Called S) : Type 0 where
@@ -59,6 +68,26 @@ pub robust-refused : (who : RecordNumber) (o : Operation) (brought : OwnerList) 
     → robustCalled who o brought s bytes .report .progress ≡ progress.Refused why → Unmoved s bytes (robustCalled who o brought s bytes)
 robust-refused who o brought s bytes why p =
     called-harmless who bytes s _ (turnlaws.robust-harmless (recordsIn bytes) who o brought s (named who bytes)) why p
+
+-- accepted is not refused
+pub clash : {X : Type 0} {why : Refusal} → progress.Accepted ≡ progress.Refused why → X
+clash p = let y : _≡_ {A = ℕ} 0 1 = ap (λ (q : Progress). kindOf q) p in absurd (omega (arith, y))
+
+-- nor does a refused death or list
+pub death-refused : (who : RecordNumber) (bytes : List ℕ) (why : Refusal) → diedIn who bytes .report .progress ≡ progress.Refused why → diedIn who bytes .records ≡ bytes
+death-refused who bytes why p = ap (λ (q : Progress). recordsAfter q who (deathOf (named who bytes) (recordsIn bytes) who .thread) bytes) p
+
+pub list-refused : (kind : SetKind) (who : RecordNumber) (brought : OwnerList) (bytes : List ℕ) (why : Refusal)
+    → listedIn kind who brought bytes .report .progress ≡ progress.Refused why → listedIn kind who brought bytes .records ≡ bytes
+list-refused kind who brought bytes why p =
+    ap (λ (q : Progress). recordsAfter q who (listOf kind (named who bytes) (recordsIn bytes) who brought .thread) bytes) p
+
+-- a record that is not there is not written, whatever came back
+pub absent-stays : (p : Progress) (who : RecordNumber) (t : Record) (bytes : List ℕ) → recordsIn bytes ≤ who .0 → recordsAfter p who t bytes ≡ bytes
+unfolding recordWritten
+absent-stays progress.Accepted who t bytes h = simp (le-ltb (who .0) (recordsIn bytes) h)
+absent-stays (progress.Answered a) who t bytes h = simp (le-ltb (who .0) (recordsIn bytes) h)
+absent-stays (progress.Refused why) who t bytes h = refl
 
 -- no byte outside the named record's is written
 written-stays : (b : Bool) (bytes : List ℕ) (place : ℕ) (t : Record) (i : ℕ) → i < 132 * place ⊎ 132 * place + 132 ≤ i
@@ -126,8 +155,8 @@ pub robust-determined : (c : Called robust.Shared) (x y : RobustOutcome × List 
     → robustCame (y .0) (y .1) (y .2) ≡ c → x ≡ y
 robust-determined = determined (λ x. robustCame (x .0) (x .1) (x .2)) robustBack (λ x. refl)
 
-abbrev noted : Report × List ℕ → Noted
-noted x = record { records = x .1; report = x .0 }
+abbrev alone : Report × List ℕ → RecordsAlone
+alone x = record { records = x .1; report = x .0 }
 
-pub noted-determined : (n : Noted) (x y : Report × List ℕ) → noted x ≡ n → noted y ≡ n → x ≡ y
-noted-determined = determined noted (λ n. (n .report, n .records)) (λ x. refl)
+pub alone-determined : (n : RecordsAlone) (x y : Report × List ℕ) → alone x ≡ n → alone y ≡ n → x ≡ y
+alone-determined = determined alone (λ n. (n .report, n .records)) (λ x. refl)

@@ -1,2 +1,3 @@
 pub mod Came
 pub mod Laws
+pub mod Setups

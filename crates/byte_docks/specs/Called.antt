@@ -55,15 +55,15 @@ readyFor bytes e = record {
 }
 
 -- what touches the record alone: the table, and the report
-pub record Noted : Type 0 where
+pub record RecordsAlone : Type 0 where
   pub records : List ℕ
   pub report : Report
 
-abbrev pub notedIn : RecordNumber → List ℕ → RecordAfter → Noted
-notedIn who bytes r = record { records = recordsAfter (r .report .progress) who (r .thread) bytes; report = r .report }
+abbrev pub aloneIn : RecordNumber → List ℕ → RecordAfter → RecordsAlone
+aloneIn who bytes r = record { records = recordsAfter (r .report .progress) who (r .thread) bytes; report = r .report }
 
-abbrev pub diedIn : RecordNumber → List ℕ → Noted
-diedIn who bytes = notedIn who bytes (deathOf (named who bytes) (recordsIn bytes) who)
+abbrev pub diedIn : RecordNumber → List ℕ → RecordsAlone
+diedIn who bytes = aloneIn who bytes (deathOf (named who bytes) (recordsIn bytes) who)
 
-abbrev pub listedIn : SetKind → RecordNumber → OwnerList → List ℕ → Noted
-listedIn kind who brought bytes = notedIn who bytes (listOf kind (named who bytes) (recordsIn bytes) who brought)
+abbrev pub listedIn : SetKind → RecordNumber → OwnerList → List ℕ → RecordsAlone
+listedIn kind who brought bytes = aloneIn who bytes (listOf kind (named who bytes) (recordsIn bytes) who brought)

@@ -19,7 +19,7 @@ use thread_records::Record;
 use thread_records::RecordAfter;
 use unique_index_set_enums::RecordNumber;
 ghost use mathlib.Core.Path.{_≡_};
-ghost use Rattle.byte_docks.specs.Called.{Noted, recordsAfter, allAfter, notedIn, diedIn, listedIn};
+ghost use Rattle.byte_docks.specs.Called.{RecordsAlone, recordsAfter, allAfter, aloneIn, diedIn, listedIn};
 
 // What is refused writes no record.
 pub(crate) fn write_back(records: &mut [u8], who: RecordNumber, thread: Record, report: Report)
@@ -46,7 +46,7 @@ pub(crate) fn write_all(records: &mut [u8], thread: Record, report: Report)
 }
 
 fn note(records: &mut [u8], who: RecordNumber, after: RecordAfter) -> Report
-    ensures { λ r. ⌜ record { records = now (records .exit); report = r } ≡ notedIn who (now (records .entry)) after ⌝ }
+    ensures { λ r. ⌜ record { records = now (records .exit); report = r } ≡ aloneIn who (now (records .entry)) after ⌝ }
 {
     let report = after.report;
     let thread = after.thread;

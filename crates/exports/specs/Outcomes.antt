@@ -8,7 +8,7 @@ use Rattle.calls.specs.declared.Progress.{Progress}
 use Rattle.calls.specs.declared.Progress.the-variants.{Accepted, Answered, Refused}
 use Rattle.calls.specs.declared.Report.{Report}
 use Rattle.calls.specs.Numbers.{answerNumber, answerValue, refusalNumber}
-use Rattle.byte_docks.specs.Called.{Called, Noted}
+use Rattle.byte_docks.specs.Called.{Called, RecordsAlone}
 use Rattle.exports.specs.declared.outcomes.Outcome.{Outcome}
 use Rattle.exports.specs.declared.outcomes.Told.{Told}
 use Rattle.exports.specs.declared.outcomes.NotedNumbers.{NotedNumbers}
@@ -39,9 +39,9 @@ pub record RecordsLeft : Type 0 where
   pub outcome : Outcome
   pub records : List ℕ
 
-abbrev pub recordsLeft : Noted → RecordsLeft
+abbrev pub recordsLeft : RecordsAlone → RecordsLeft
 recordsLeft n = record { outcome = outcomeOf (n .report) 0; records = n .records }
 
 -- what a call leaves, its outcome put beside what is lent as `with` says
-abbrev pub told : {S A : Type 0} → (Outcome → Called S → A) → Called S → A
-told with c = with (outcomeOf (c .report) (c .steps)) c
+abbrev pub withOutcome : {S A : Type 0} → (Outcome → Called S → A) → Called S → A
+withOutcome with c = with (outcomeOf (c .report) (c .steps)) c

@@ -11,7 +11,7 @@ use Rattle.turns.specs.declared.Operation.the-variants.{Start, Step, Drain}
 use Rattle.byte_docks.specs.Called.{Called, listedIn}
 use Rattle.byte_docks.specs.Plain.{plainCalled, plainReadied}
 use Rattle.exports.specs.declared.outcomes.Outcome.{Outcome}
-use Rattle.exports.specs.Outcomes.{RecordsLeft, recordsLeft, told}
+use Rattle.exports.specs.Outcomes.{RecordsLeft, recordsLeft, withOutcome}
 use Rattle.exports.specs.Brought.{broughtIn}
 
 -- the set by its capacity and its head word, with the buffers that are lent
@@ -69,18 +69,18 @@ plainMoved o c = record {
 
 -- the setup of a capacity
 abbrev pub plainReady : ℕ → Shared → List ℕ → PlainReady
-plainReady asked s bytes = told plainSet (plainReadied asked s bytes)
+plainReady asked s bytes = withOutcome plainSet (plainReadied asked s bytes)
 
 -- a call's number, an index or the room, an owner, a mode
 abbrev pub plainStart : RecordNumber → ℕ → ℕ → ℕ → ℕ → Shared → List ℕ → PlainStarted
 plainStart who call at o mode s bytes =
-    told plainBegun (plainCalled who (Start (record { call = call; «index_or_room» = at; owner = owner o; mode = mode })) emptyList s bytes)
+    withOutcome plainBegun (plainCalled who (Start (record { call = call; «index_or_room» = at; owner = owner o; mode = mode })) emptyList s bytes)
 
 abbrev pub plainStep : RecordNumber → Shared → List ℕ → PlainStepped
-plainStep who s bytes = told plainMoved (plainCalled who Step emptyList s bytes)
+plainStep who s bytes = withOutcome plainMoved (plainCalled who Step emptyList s bytes)
 
 abbrev pub plainDrain : RecordNumber → ℕ → Shared → List ℕ → PlainStepped
-plainDrain who budget s bytes = told plainMoved (plainCalled who (Drain budget) emptyList s bytes)
+plainDrain who budget s bytes = withOutcome plainMoved (plainCalled who (Drain budget) emptyList s bytes)
 
 abbrev pub plainList : RecordNumber → List ℕ → List ℕ → RecordsLeft
 plainList who owners bytes = recordsLeft (listedIn kind.Plain who (broughtIn owners) bytes)

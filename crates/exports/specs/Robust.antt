@@ -11,7 +11,7 @@ use Rattle.turns.specs.declared.Operation.the-variants.{Start, Step, Drain}
 use Rattle.byte_docks.specs.Called.{Called, listedIn}
 use Rattle.byte_docks.specs.Robust.{robustCalled, robustReadied}
 use Rattle.exports.specs.declared.outcomes.Outcome.{Outcome}
-use Rattle.exports.specs.Outcomes.{RecordsLeft, recordsLeft, told}
+use Rattle.exports.specs.Outcomes.{RecordsLeft, recordsLeft, withOutcome}
 use Rattle.exports.specs.Brought.{broughtIn}
 
 -- the set by its capacity and its generation, with the cells that are lent
@@ -63,18 +63,18 @@ robustMoved o c = record {
 
 -- the setup of a capacity
 abbrev pub robustReady : ℕ → Shared → List ℕ → RobustReady
-robustReady asked s bytes = told robustSet (robustReadied asked s bytes)
+robustReady asked s bytes = withOutcome robustSet (robustReadied asked s bytes)
 
 -- a call's number, an index or the room, an owner, a mode
 abbrev pub robustStart : RecordNumber → ℕ → ℕ → ℕ → ℕ → Shared → List ℕ → RobustStarted
 robustStart who call at o mode s bytes =
-    told robustBegun (robustCalled who (Start (record { call = call; «index_or_room» = at; owner = owner o; mode = mode })) emptyList s bytes)
+    withOutcome robustBegun (robustCalled who (Start (record { call = call; «index_or_room» = at; owner = owner o; mode = mode })) emptyList s bytes)
 
 abbrev pub robustStep : RecordNumber → Shared → List ℕ → RobustStepped
-robustStep who s bytes = told robustMoved (robustCalled who Step emptyList s bytes)
+robustStep who s bytes = withOutcome robustMoved (robustCalled who Step emptyList s bytes)
 
 abbrev pub robustDrain : RecordNumber → ℕ → Shared → List ℕ → RobustStepped
-robustDrain who budget s bytes = told robustMoved (robustCalled who (Drain budget) emptyList s bytes)
+robustDrain who budget s bytes = withOutcome robustMoved (robustCalled who (Drain budget) emptyList s bytes)
 
 abbrev pub robustList : RecordNumber → List ℕ → List ℕ → RecordsLeft
 robustList who owners bytes = recordsLeft (listedIn kind.Robust who (broughtIn owners) bytes)

@@ -1,3 +1,4 @@
 pub mod Stores
 pub mod Laid
 pub mod Tables
+pub mod Fitting

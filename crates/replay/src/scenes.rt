@@ -1,5 +1,6 @@
 // A set that is replayed, and what came of it so far.
 use crate::units::Turn;
+use crate::units::entries_in;
 use crate::units::is_setup;
 use crate::units::listed_in;
 use crate::units::owners_in;
@@ -255,6 +256,17 @@ fn robust_turn(
     other_turn(scene, turn, bytes, records)
 }
 
+// All slots are recorded, or all cells.
+fn all_entries(scene: Scene, entries: u8) -> bool {
+    if scene.robust {
+        return (entries as u32) == scene.capacity;
+    }
+    if scene.capacity > 15 {
+        return false;
+    }
+    (entries as u32) == scene.capacity + 1
+}
+
 // Whether it came back with what was recorded, and left that word and those entries.
 fn same_left(
     scene: Scene,
@@ -270,6 +282,9 @@ fn same_left(
         return false;
     }
     if !same_outcome(outcome, recorded) {
+        return false;
+    }
+    if !all_entries(scene, entries_in(bytes)) {
         return false;
     }
     if scene.robust {

@@ -35,7 +35,7 @@ pub(crate) fn listed_in(bytes: &[u8]) -> u8
     limited(byte_at(bytes, 5) as u32)
 }
 
-fn entries_in(bytes: &[u8]) -> u8
+pub(crate) fn entries_in(bytes: &[u8]) -> u8
     ensures { λ r. ⌜ r ≤ 16 ⌝ }
 {
     limited(number4(bytes, 44))
@@ -52,18 +52,35 @@ pub(crate) fn unit_size(bytes: &[u8]) -> usize {
     64 + 8 * (listed_in(bytes) as usize) + 8 * (entries_in(bytes) as usize)
 }
 
-fn is_known(bytes: &[u8]) -> bool {
-    let kind = byte_at(bytes, 0);
-    if kind == 1 {
-        return true;
+// A setup of either set.
+fn is_known_setup(bytes: &[u8]) -> bool {
+    byte_at(bytes, 1) < 2
+}
+
+// One of the five turns, with no more owners and entries than a unit has.
+fn is_known_turn(bytes: &[u8]) -> bool {
+    let what = byte_at(bytes, 1);
+    if what == 0 {
+        return false;
     }
-    if kind != 2 {
+    if what > 5 {
         return false;
     }
     if (byte_at(bytes, 5) as u32) > ENTRIES_LIMIT {
         return false;
     }
     number4(bytes, 44) <= ENTRIES_LIMIT
+}
+
+fn is_known(bytes: &[u8]) -> bool {
+    let kind = byte_at(bytes, 0);
+    if kind == 1 {
+        return is_known_setup(bytes);
+    }
+    if kind == 2 {
+        return is_known_turn(bytes);
+    }
+    false
 }
 
 // The bytes begin with a whole unit.

@@ -22,7 +22,7 @@ pub struct Bench {
     pub oracle: Oracle,
     pub shadow: Shadow,
     sink: Sink,
-    /// Accepted starts and steps.
+    /// Accepted starts and steps, those too that the port is yet to be compared in.
     pub steps: u64,
 }
 
@@ -180,7 +180,8 @@ impl Bench {
         let outcome = turn.outcome;
         let counts =
             matches!(op, Op::Start { .. }) && outcome.progress != REFUSED && !only_accepted;
-        self.steps += u64::from(outcome.steps) + u64::from(counts);
+        let steps = u64::from(outcome.steps) + u64::from(counts);
+        self.steps += steps;
         let call = match &op {
             Op::Start { call, .. } => call_of(*call),
             _ => turn.call,
@@ -189,6 +190,7 @@ impl Bench {
         let expected = Expected {
             op,
             outcome,
+            steps,
             kind: self.shadow.kind,
             capacity: self.shadow.capacity,
             word: self.word(),

@@ -9,6 +9,7 @@ use simmerhusk::raw::{Buffers, Dock, Op, Port, RECORD_BYTES, Reply};
 use crate::coverage::Coverage;
 use crate::expected::{Contents, Expected, Named, REFUSED};
 use crate::places::{access_at, call_at};
+use crate::progress::Progress;
 use crate::record_bytes::RecordBytes;
 use crate::shadow::List;
 use crate::show;
@@ -35,11 +36,14 @@ pub struct Comparer {
     loaded: String,
     log: VecDeque<Op>,
     turns: u64,
+    /// Accepted starts and steps that were compared.
+    pub steps: u64,
+    pub progress: Progress,
     pub coverage: Coverage,
 }
 
 impl Comparer {
-    pub fn new(port: Port, seed: u64) -> Self {
+    pub fn new(port: Port, seed: u64, progress: Progress) -> Self {
         Self {
             port,
             seed,
@@ -52,6 +56,8 @@ impl Comparer {
             loaded: String::new(),
             log: VecDeque::new(),
             turns: 0,
+            steps: 0,
+            progress,
             coverage: Coverage::new(),
         }
     }
@@ -127,6 +133,14 @@ impl Comparer {
         let place = named_place(&self.records, &expected.op);
         self.coverage.note(expected, place);
         self.records.clone_from(&self.reply.dock.records);
+        self.steps += expected.steps;
+        self.progress.steps(self.steps);
+    }
+
+    /// A part of the run begins: all before it is compared.
+    pub fn enter(&mut self, part: &'static str) {
+        self.catch_up();
+        self.progress.enter(part);
     }
 
     fn compare_whole(&self, expected: &Expected) {
@@ -243,6 +257,7 @@ impl Comparer {
     }
 
     pub fn differ(&self, what: &str) -> ! {
+        self.progress.end();
         println!("difference in scene: {} (seed {})", self.title, self.seed);
         println!("{}", self.loaded);
         let skipped = self.turns - self.log.len() as u64;

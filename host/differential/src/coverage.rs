@@ -7,7 +7,9 @@ use oracle_paused::Call;
 use simmerhusk::raw::Op;
 
 use crate::expected::{ANSWERED, Expected, FOUND, FREED, REFUSED};
+use crate::place_names::{place, places};
 use crate::shadow::Kind;
+use crate::table::Table;
 
 const KINDS: [Kind; 2] = [Kind::Plain, Kind::Robust];
 const CALLS: [Call; 6] = [
@@ -18,7 +20,7 @@ const CALLS: [Call; 6] = [
     Call::Find,
     Call::Recover,
 ];
-const REFUSALS: [u32; 9] = [3, 4, 10, 9, 11, 13, 5, 7, 8];
+const REFUSALS: [u32; 9] = [3, 4, 5, 7, 8, 9, 10, 11, 13];
 
 #[derive(Debug, Clone, Copy, PartialEq, Eq, PartialOrd, Ord)]
 enum Access {
@@ -26,6 +28,8 @@ enum Access {
     Won,
     Lost,
 }
+
+const ACCESSES: [Access; 3] = [Access::Made, Access::Won, Access::Lost];
 
 #[derive(Debug, Clone, Copy, PartialEq, Eq, PartialOrd, Ord)]
 enum Ending {
@@ -51,6 +55,22 @@ enum Noted {
     Found,
     Freed,
 }
+
+const NOTED: [Noted; 3] = [Noted::Nothing, Noted::Found, Noted::Freed];
+
+/// The answers that have a column, and its head. No call can give another.
+const ANSWERS: [(&str, Ending, Noted); 10] = [
+    ("goes on", Ending::Going, Noted::Nothing),
+    ("done 0", Ending::DoneZero, Noted::Nothing),
+    ("done above 0", Ending::DoneAboveZero, Noted::Nothing),
+    ("1", Ending::Failed(1), Noted::Nothing),
+    ("2", Ending::Failed(2), Noted::Nothing),
+    ("6", Ending::Failed(6), Noted::Nothing),
+    ("14", Ending::Failed(14), Noted::Nothing),
+    ("found", Ending::Going, Noted::Found),
+    ("found, done", Ending::DoneAboveZero, Noted::Found),
+    ("freed", Ending::Going, Noted::Freed),
+];
 
 #[derive(Debug, Clone, Copy, PartialEq, Eq, PartialOrd, Ord)]
 enum Entry {
@@ -80,56 +100,84 @@ enum Cell {
 
 impl fmt::Display for Cell {
     fn fmt(&self, f: &mut fmt::Formatter<'_>) -> fmt::Result {
-        match self {
-            Cell::Place(kind, place, Access::Made) => write!(f, "{kind:?} place {place}"),
-            Cell::Place(kind, place, access) => write!(f, "{kind:?} place {place} {access:?}"),
+        match *self {
+            Cell::Place(kind, number, access) => {
+                let name = place(kind, number).map_or("unknown", |place| place.name);
+                let access = access_name(access);
+                write!(f, "{} place {number}, {name}: {access}", set_name(kind))
+            }
             Cell::Answer(kind, call, ending, noted) => {
-                write!(f, "{kind:?} {call:?} {ending:?} {noted:?}")
+                let answer = answer_name(ending, noted);
+                write!(f, "{} {}: {answer}", set_name(kind), call_name(call))
             }
             Cell::Refused(kind, entry, number) => {
-                write!(f, "{kind:?} {entry:?} refused {number}")
+                let (set, entry) = (set_name(kind), entry_name(entry));
+                write!(f, "{set} {entry}: refused with {number}")
             }
         }
     }
 }
 
-fn exchanges(kind: Kind) -> &'static [u8] {
+fn set_name(kind: Kind) -> &'static str {
     match kind {
-        Kind::Plain => &[3, 7],
-        Kind::Robust => &[17, 18, 20, 32, 34, 36, 40, 51, 98, 100, 102, 106],
+        Kind::Plain => "plain",
+        Kind::Robust => "robust",
     }
 }
 
-fn looks(kind: Kind) -> &'static [u8] {
-    match kind {
-        Kind::Plain => &[1, 2, 4, 5, 6, 8, 9],
-        Kind::Robust => &[
-            16, 19, 33, 35, 37, 38, 39, 48, 49, 50, 64, 80, 96, 97, 99, 101, 103, 104, 105, 107,
-        ],
+fn access_name(access: Access) -> &'static str {
+    match access {
+        Access::Made => "made",
+        Access::Won => "won",
+        Access::Lost => "lost",
+    }
+}
+
+fn call_name(call: Call) -> &'static str {
+    match call {
+        Call::Acquire => "acquire",
+        Call::Release => "release",
+        Call::Borrowed => "borrowed_indices",
+        Call::Locked => "is_locked",
+        Call::Find => "find",
+        Call::Recover => "recover",
+    }
+}
+
+fn answer_name(ending: Ending, noted: Noted) -> String {
+    let column = ANSWERS
+        .iter()
+        .find(|(_, of, with)| (*of, *with) == (ending, noted));
+    match column {
+        Some((name, ..)) => (*name).to_string(),
+        None => format!("{ending:?}, {noted:?}"),
+    }
+}
+
+fn entry_name(entry: Entry) -> &'static str {
+    match entry {
+        Entry::Setup => "setup",
+        Entry::Start => "start",
+        Entry::Step => "step",
+        Entry::Drain => "drain",
+        Entry::List => "list",
+        Entry::Death => "death",
     }
 }
 
 fn all_cells() -> Vec<Cell> {
     let mut cells = Vec::new();
     for kind in KINDS {
-        for place in looks(kind) {
-            cells.push(Cell::Place(kind, *place, Access::Made));
-        }
-        for place in exchanges(kind) {
-            cells.push(Cell::Place(kind, *place, Access::Won));
-            cells.push(Cell::Place(kind, *place, Access::Lost));
+        for number in 0..=u8::MAX {
+            cells.extend(ACCESSES.map(|access| Cell::Place(kind, number, access)));
         }
         for call in CALLS {
             for ending in ENDINGS {
-                for noted in [Noted::Nothing, Noted::Found, Noted::Freed] {
-                    cells.push(Cell::Answer(kind, call, ending, noted));
-                }
+                cells.extend(NOTED.map(|noted| Cell::Answer(kind, call, ending, noted)));
             }
         }
         for entry in ENTRIES {
-            for number in REFUSALS {
-                cells.push(Cell::Refused(kind, entry, number));
-            }
+            cells.extend(REFUSALS.map(|number| Cell::Refused(kind, entry, number)));
         }
     }
     cells
@@ -138,9 +186,20 @@ fn all_cells() -> Vec<Cell> {
 /// Why a cell cannot be met; none if it can. README.md has the same list.
 fn impossible(cell: Cell) -> Option<&'static str> {
     match cell {
-        Cell::Place(..) => None,
+        Cell::Place(kind, number, access) => impossible_access(kind, number, access),
         Cell::Answer(kind, call, ending, noted) => impossible_answer(kind, call, ending, noted),
         Cell::Refused(kind, entry, number) => impossible_refusal(kind, entry, number),
+    }
+}
+
+fn impossible_access(kind: Kind, number: u8, access: Access) -> Option<&'static str> {
+    match (place(kind, number), access) {
+        (None, _) => Some("there is no such place"),
+        (Some(place), Access::Made) if place.is_exchange => Some("an exchange is won or lost"),
+        (Some(place), Access::Won | Access::Lost) if !place.is_exchange => {
+            Some("no exchange is made there")
+        }
+        _ => None,
     }
 }
 
@@ -148,6 +207,7 @@ fn impossible_answer(kind: Kind, call: Call, ending: Ending, noted: Noted) -> Op
     let one_look = call == Call::Locked || (kind, call) == (Kind::Plain, Call::Borrowed);
     let ended = ending != Ending::Going;
     match (call, ending, noted) {
+        _ if !ENDINGS.contains(&ending) => Some("no call answers so"),
         (Call::Find | Call::Recover, ..) if kind == Kind::Plain => {
             Some("find and recover are calls of the robust set")
         }
@@ -174,6 +234,7 @@ fn impossible_answer(kind: Kind, call: Call, ending: Ending, noted: Noted) -> Op
 fn impossible_refusal(kind: Kind, entry: Entry, number: u32) -> Option<&'static str> {
     let is_plain = kind == Kind::Plain;
     match (entry, number) {
+        _ if !REFUSALS.contains(&number) => Some("no call is refused so"),
         (Entry::Setup, 9 | 11 | 13 | 5 | 7 | 8) => Some("a setup names no record, call or index"),
         (Entry::Step | Entry::Drain, 5 | 7 | 8) => Some("a step is given no owner and no index"),
         (Entry::Step, 13) => Some("a step asks for no call"),
@@ -189,18 +250,22 @@ fn impossible_refusal(kind: Kind, entry: Entry, number: u32) -> Option<&'static 
     }
 }
 
-#[derive(Default)]
 pub struct Coverage {
-    places: BTreeMap<Cell, u64>,
-    met: BTreeMap<Cell, u64>,
-    quick: Vec<u64>,
+    /// By set, place and access.
+    places: Vec<u64>,
+    /// Answers and refusals.
+    others: BTreeMap<Cell, u64>,
+}
+
+fn place_at(kind: Kind, number: u8, access: Access) -> usize {
+    (kind as usize * 256 + number as usize) * ACCESSES.len() + access as usize
 }
 
 impl Coverage {
     pub fn new() -> Self {
         Self {
-            quick: vec![0; 2 * 256 * 3],
-            ..Self::default()
+            places: vec![0; KINDS.len() * 256 * ACCESSES.len()],
+            others: BTreeMap::new(),
         }
     }
 
@@ -209,16 +274,15 @@ impl Coverage {
         let outcome = &expected.outcome;
         if let Some(made) = expected.made {
             let access = match made.won {
-                None => 0,
-                Some(true) => 1,
-                Some(false) => 2,
+                None => Access::Made,
+                Some(true) => Access::Won,
+                Some(false) => Access::Lost,
             };
-            self.quick[(expected.kind as usize * 256 + place as usize) * 3 + access] += 1;
+            self.places[place_at(expected.kind, place, access)] += 1;
         }
         if outcome.progress == REFUSED {
             if let Some(entry) = entry_of(&expected.op) {
-                let cell = Cell::Refused(expected.kind, entry, outcome.number);
-                *self.met.entry(cell).or_default() += 1;
+                self.met(Cell::Refused(expected.kind, entry, outcome.number));
             }
             return;
         }
@@ -240,70 +304,102 @@ impl Coverage {
             FREED => Noted::Freed,
             _ => Noted::Nothing,
         };
-        let cell = Cell::Answer(expected.kind, call, ending, noted);
-        *self.met.entry(cell).or_default() += 1;
+        self.met(Cell::Answer(expected.kind, call, ending, noted));
     }
 
-    fn settle(&mut self) {
-        for kind in KINDS {
-            for place in 0..=255_u8 {
-                for (number, access) in [Access::Made, Access::Won, Access::Lost].iter().enumerate()
-                {
-                    let count = self.quick[(kind as usize * 256 + place as usize) * 3 + number];
-                    if count > 0 {
-                        self.places.insert(Cell::Place(kind, place, *access), count);
-                    }
-                }
-            }
-        }
+    fn met(&mut self, cell: Cell) {
+        *self.others.entry(cell).or_default() += 1;
     }
 
     fn count(&self, cell: Cell) -> u64 {
-        let counts = match cell {
-            Cell::Place(..) => &self.places,
-            _ => &self.met,
-        };
-        counts.get(&cell).copied().unwrap_or(0)
+        match cell {
+            Cell::Place(kind, number, access) => self.places[place_at(kind, number, access)],
+            cell => self.others.get(&cell).copied().unwrap_or(0),
+        }
+    }
+
+    fn is_missing(&self, cell: Cell) -> bool {
+        self.count(cell) == 0 && impossible(cell).is_none()
     }
 
     /// The places and answers that could have been met and were not.
-    pub fn places_and_answers_missing(&mut self) -> Vec<String> {
-        self.settle();
+    pub fn places_and_answers_missing(&self) -> Vec<String> {
         let mut cells = all_cells();
-        cells.retain(|cell| !matches!(cell, Cell::Refused(..)));
-        cells.retain(|cell| impossible(*cell).is_none() && self.count(*cell) == 0);
+        cells.retain(|cell| !matches!(cell, Cell::Refused(..)) && self.is_missing(*cell));
         cells.iter().map(Cell::to_string).collect()
     }
 
-    /// Prints the tables; false if a cell is empty that can be met, or met that cannot.
-    pub fn print(&mut self) -> bool {
-        self.settle();
-        let cells = all_cells();
-        let mut fine = true;
-        let mut without = 0;
-        for cell in &cells {
-            match (self.count(*cell), impossible(*cell)) {
-                (0, Some(_)) => without += 1,
-                (0, None) => {
-                    println!("met: {cell}: NEVER");
-                    fine = false;
-                }
-                (count, Some(why)) => {
-                    println!("met: {cell}: {count}, though {why}");
-                    fine = false;
-                }
-                (count, None) => println!("met: {cell}: {count}"),
-            }
-        }
-        for cell in self.places.keys().chain(self.met.keys()) {
-            if !cells.contains(cell) {
-                println!("met: {cell}, which is no cell of the table");
-                fine = false;
-            }
-        }
-        println!("met: {without} further cells cannot be met (README.md says why)");
-        fine
+    /// A line for each cell that is empty and can be met, or is met and cannot be.
+    pub fn wrong(&self) -> Vec<String> {
+        let mut cells = all_cells();
+        let further = self.others.keys().filter(|cell| !cells.contains(cell));
+        cells.extend(further.copied().collect::<Vec<_>>());
+        let wrong = |cell| match (self.count(cell), impossible(cell)) {
+            (0, None) => Some(format!("never met: {cell}")),
+            (1.., Some(why)) => Some(format!("met, though {why}: {cell}")),
+            _ => None,
+        };
+        cells.into_iter().filter_map(wrong).collect()
     }
+
+    pub fn print(&self) {
+        println!(
+            "\nWhat was met, and how often. - cannot be met: README.md says why. ! fails the run.\n"
+        );
+        for kind in KINDS {
+            println!("The {} set\n", set_name(kind));
+            println!("{}", self.places_table(kind));
+            println!("{}", self.answers_table(kind));
+            println!("{}", self.refusals_table(kind));
+        }
+    }
+
+    fn places_table(&self, kind: Kind) -> Table {
+        let heads = ACCESSES.map(|access| access_name(access).to_string());
+        let mut table = Table::new(row("places", heads));
+        for place in places(kind) {
+            let name = format!("{:>3}  {}", place.number, place.name);
+            let cells = ACCESSES.map(|access| self.shown(Cell::Place(kind, place.number, access)));
+            table.row(row(&name, cells));
+        }
+        table
+    }
+
+    fn answers_table(&self, kind: Kind) -> Table {
+        let heads = ANSWERS.map(|(name, ..)| name.to_string());
+        let mut table = Table::new(row("answers", heads));
+        for call in CALLS {
+            let cells = ANSWERS
+                .map(|(_, ending, noted)| self.shown(Cell::Answer(kind, call, ending, noted)));
+            table.row(row(call_name(call), cells));
+        }
+        table
+    }
+
+    fn refusals_table(&self, kind: Kind) -> Table {
+        let heads = REFUSALS.map(|number| number.to_string());
+        let mut table = Table::new(row("refusals", heads));
+        for entry in ENTRIES {
+            let cells = REFUSALS.map(|number| self.shown(Cell::Refused(kind, entry, number)));
+            table.row(row(entry_name(entry), cells));
+        }
+        table
+    }
+
+    fn shown(&self, cell: Cell) -> String {
+        match (self.count(cell), impossible(cell)) {
+            (0, None) => "0 !".to_string(),
+            (0, Some(_)) => "-".to_string(),
+            (count, None) => count.to_string(),
+            (count, Some(_)) => format!("{count} !"),
+        }
+    }
+}
+
+fn row<const N: usize>(name: &str, cells: [String; N]) -> Vec<String> {
+    let mut row = vec![name.to_string()];
+    row.extend(cells);
+    row
 }
 
 fn entry_of(op: &Op) -> Option<Entry> {

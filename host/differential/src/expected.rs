@@ -49,6 +49,8 @@ pub enum Contents {
 pub struct Expected {
     pub op: Op,
     pub outcome: Outcome,
+    /// An accepted start, or accepted steps.
+    pub steps: u64,
     pub kind: Kind,
     pub capacity: u32,
     pub word: u64,

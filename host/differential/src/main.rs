@@ -6,7 +6,9 @@ mod bench;
 mod comparer;
 mod coverage;
 mod expected;
+mod place_names;
 mod places;
+mod progress;
 mod random;
 mod record_bytes;
 mod recording;
@@ -15,15 +17,16 @@ mod sample;
 mod scenes;
 mod shadow;
 mod show;
+mod table;
 mod words;
 
 use std::process::ExitCode;
-use std::time::Instant;
 
 use simmerhusk::raw::Port;
 
 use bench::{Bench, Sink};
 use comparer::Comparer;
+use progress::Progress;
 use scenes::{damage, interleavings, limits, long, random as random_scenes, whole_calls};
 
 const USAGE: &str =
@@ -85,56 +88,77 @@ fn run(options: &Options) -> ExitCode {
             quiet(panic);
         }
     }));
-    let mut bench = Bench::new(Sink::Port(Box::new(Comparer::new(port, options.seed))));
-    let began = Instant::now();
-    let told = |bench: &mut Bench, part: &str| {
-        bench.comparer().catch_up();
-        if options.progress {
-            let seconds = began.elapsed().as_secs_f64();
-            println!("{part}: {} steps, {seconds:.1} s", bench.steps);
+    let progress = match Progress::new(options.progress, options.steps) {
+        Ok(progress) => progress,
+        Err(error) => {
+            eprintln!("differential: no progress can be shown: {error}");
+            return ExitCode::from(2);
         }
     };
-    sample::scenes(&mut bench);
-    told(&mut bench, "bench sheet and recorded sample");
-    let missing = bench.comparer().coverage.places_and_answers_missing();
-    if !missing.is_empty() {
-        println!("the recorded sample does not meet: {}", missing.join(", "));
+    let comparer = Comparer::new(port, options.seed, progress);
+    let mut bench = Bench::new(Sink::Port(Box::new(comparer)));
+    let missing = sample_missing(&mut bench);
+    if missing.is_empty() {
+        scenes(&mut bench, options);
+    }
+    let comparer = bench.comparer();
+    comparer.progress.end();
+    let wrong = match missing.is_empty() {
+        true => all_met(comparer),
+        false => missing,
+    };
+    for line in &wrong {
+        println!("{line}");
+    }
+    if !wrong.is_empty() {
         return ExitCode::FAILURE;
     }
-    whole_calls::round(&mut bench, options.seed, 60);
-    told(&mut bench, "whole calls");
-    damage::all_pairs(&mut bench);
-    damage::alone(&mut bench, options.seed, 4_000);
-    told(&mut bench, "damaged records");
-    long::all(&mut bench);
-    told(&mut bench, "once around the tag");
-    interleavings::all(
-        &mut bench,
-        (options.steps / 4_000).clamp(40, 20_000),
-        options.seed,
-    );
-    told(&mut bench, "interleavings");
+    println!("{} steps compared, 0 differences", comparer.steps);
+    ExitCode::SUCCESS
+}
+
+/// A line for each place and answer that the recorded sample does not meet.
+fn sample_missing(bench: &mut Bench) -> Vec<String> {
+    bench.comparer().enter("recorded sample");
+    sample::scenes(bench);
+    bench.comparer().catch_up();
+    let missing = bench.comparer().coverage.places_and_answers_missing();
+    let named = |cell| format!("never met by the recorded sample: {cell}");
+    missing.into_iter().map(named).collect()
+}
+
+fn scenes(bench: &mut Bench, options: &Options) {
+    let seed = options.seed;
+    bench.comparer().enter("whole calls");
+    whole_calls::round(bench, seed, 60);
+    bench.comparer().enter("damaged records");
+    damage::all_pairs(bench);
+    damage::alone(bench, seed, 4_000);
+    bench.comparer().enter("once around the tag");
+    long::all(bench);
+    bench.comparer().enter("interleavings");
+    interleavings::all(bench, (options.steps / 4_000).clamp(40, 20_000), seed);
+    bench.comparer().enter("random scenes");
     for number in 0..200 {
-        random_scenes::scene(&mut bench, options.seed, number);
+        random_scenes::scene(bench, seed, number);
     }
-    told(&mut bench, "first random scenes");
-    limits::all(&mut bench);
-    told(&mut bench, "limits");
+    bench.comparer().enter("limits");
+    limits::all(bench);
+    bench.comparer().enter("random scenes");
     let mut number = 200;
     while bench.steps < options.steps {
-        random_scenes::scene(&mut bench, options.seed, number);
+        random_scenes::scene(bench, seed, number);
         if number % 1_000 == 0 {
-            whole_calls::round(&mut bench, options.seed.wrapping_add(number), 60);
-            damage::alone(&mut bench, options.seed.wrapping_add(number), 400);
-            told(&mut bench, "random scenes");
+            whole_calls::round(bench, seed.wrapping_add(number), 60);
+            damage::alone(bench, seed.wrapping_add(number), 400);
         }
         number += 1;
     }
-    told(&mut bench, "all");
-    if !bench.comparer().coverage.print() {
-        println!("a cell of the tables above is not as it must be");
-        return ExitCode::FAILURE;
-    }
-    println!("{} steps compared, 0 differences", bench.steps);
-    ExitCode::SUCCESS
+    bench.comparer().catch_up();
+}
+
+/// Prints the tables; a line for each of their cells that is not as it must be.
+fn all_met(comparer: &Comparer) -> Vec<String> {
+    comparer.coverage.print();
+    comparer.coverage.wrong()
 }

@@ -237,7 +237,7 @@ pub fn all(bench: &mut Bench, limit: u64, seed: u64) {
         for scene in &scenes {
             scene.explore(bench, limit, &mut random, &mut tally);
         }
-        println!(
+        let line = format!(
             "interleavings, {name}: {} scenes, {} with every path, {} sampled; {} paths, {} cut at {STEP_LIMIT} steps",
             tally.scenes,
             tally.complete,
@@ -245,5 +245,6 @@ pub fn all(bench: &mut Bench, limit: u64, seed: u64) {
             tally.paths,
             tally.cut
         );
+        bench.comparer().progress.say(&line);
     }
 }
