@@ -154,3 +154,9 @@ table-all l t fits =
     (λ (i : ℕ) k. in-table m i t (omega (arith, k, length-all-of m))
     ∙ (each-written (recordsIn l) l t i (eqb i (recordsIn l - 1)) (omega arith) fits (omega (arith, k, length-all-of m, n)) refl
     ∙ sym (getD-replicate (length (tableOf l)) i t t (omega (arith, k, lengths)))))
+
+-- and no byte behind them is written
+pub all-behind : (n : ℕ) (l : List ℕ) (t : Record) (i : ℕ) → 132 * n ≤ i → getD (allWritten n l t) i 0 ≡ getD l i 0
+unfolding allWritten
+all-behind zero l t i h = refl
+all-behind (suc n) l t i h = laid-behind (allWritten n l t) (132 * n) t i (omega (arith, h)) ∙ all-behind n l t i (omega (arith, h))
