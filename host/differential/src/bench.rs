@@ -1,13 +1,15 @@
 //! The oracle, the shadow of the dock beside it, and where each turn's expectation goes: to the port to be
 //! compared, or into a recording.
 
-use oracle_paused::{Access, Answer, Call, Ending, Moved, Oracle, Report, Request};
+use oracle_paused::{Access, Answer, Call, Ending, LIST_LIMIT, Moved, Oracle, Report, Request};
 use simmerhusk::raw::{Buffers, Dock, Op, Outcome, RECORD_BYTES, WHOLE_LIMIT};
 
-use crate::comparer::Comparer;
+use crate::comparer::{Comparer, who_of};
 use crate::expected::{
     ACCEPTED, ANSWERED, Contents, Expected, FOUND, FREED, Made, Named, REFUSED, digest,
 };
+use crate::places::call_at;
+use crate::record_bytes::{RecordBytes, write_list};
 use crate::recording::Recording;
 use crate::refusals::refusal;
 use crate::shadow::{Damaged, Kind, Life, List, Shadow, call_of};
@@ -22,8 +24,9 @@ pub struct Bench {
     pub oracle: Oracle,
     pub shadow: Shadow,
     sink: Sink,
-    /// Accepted starts and steps, those too that the port is yet to be compared in.
-    pub steps: u64,
+    /// What is compared by itself, and what is yet to be: accepted starts and steps, and drains that made
+    /// steps.
+    pub compared: u64,
 }
 
 /// A dock as a setup leaves it.
@@ -95,7 +98,7 @@ impl Bench {
             oracle: Oracle::plain(1),
             shadow: Shadow::of(&dock),
             sink,
-            steps: 0,
+            compared: 0,
         }
     }
 
@@ -159,29 +162,61 @@ impl Bench {
             },
             None => self.accepted(&op),
         };
-        self.expect(op, turn, false)
+        self.expect(op, turn)
     }
 
-    /// An op on a damaged record, of which the Rust says nothing: it is compared whether it is refused as it
-    /// must be. If it is accepted, the scene ends here, but for a drain of no steps, which changes nothing.
-    /// True if the scene goes on.
+    /// An op while a record is damaged. A refused one, a setup, and one on another record are compared as
+    /// ever; of what a damaged record makes of an accepted one the scope says all but for steps, of which the
+    /// Rust knows nothing: the scene ends there. True if it goes on.
     pub fn make_damaged(&mut self, op: Op) -> bool {
-        let number = refusal(&self.shadow, &op);
-        let goes_on = number.is_some() || matches!(op, Op::Drain { budget: 0, .. });
-        let turn = Turn {
-            outcome: number.map_or(Outcome::default(), refused),
-            ..Turn::quiet(Named::Same)
+        let named = match (refusal(&self.shadow, &op), &self.shadow.damaged) {
+            (None, Some(damaged)) if who_of(&op) == Some(damaged.who) => {
+                let (who, bytes) = (damaged.who, damaged.bytes.clone());
+                self.named_damaged(&op, who, bytes)
+            }
+            _ => None,
         };
-        self.expect(op, turn, !goes_on);
-        goes_on
+        match named {
+            Some(named) => self.expect(op, Turn::quiet(named)),
+            None => self.make(op),
+        };
+        !matches!(named, Some(Named::Adrift(..)))
     }
 
-    fn expect(&mut self, op: Op, turn: Turn, only_accepted: bool) -> Outcome {
+    /// A damaged record after an accepted op; none if it is then as sound as any.
+    fn named_damaged(&mut self, op: &Op, who: u8, mut bytes: [u8; RECORD_BYTES]) -> Option<Named> {
+        let record = RecordBytes::of(&bytes);
+        let list = record.list();
+        match op {
+            // What an idle record remembers is not read, and its list is carried on.
+            Op::Start { .. } => {
+                self.oracle.abandon(who);
+                self.shadow.lives[who as usize] = Life::Idle;
+                self.shadow.lists[who as usize] = list;
+                self.shadow.damaged = None;
+                return None;
+            }
+            Op::Death { .. } => bytes[0] = 1,
+            Op::List { owners, .. } => write_list(&mut bytes, List::of(owners)),
+            Op::Drain { budget: 0, .. } => {}
+            _steps => {
+                let call = call_at(self.shadow.kind, record.place()).expect("a call's place");
+                return Some(Named::Adrift(call, list));
+            }
+        }
+        self.shadow.damaged = Some(Damaged { who, bytes });
+        Some(Named::Bytes(bytes))
+    }
+
+    fn expect(&mut self, op: Op, turn: Turn) -> Outcome {
         let outcome = turn.outcome;
-        let counts =
-            matches!(op, Op::Start { .. }) && outcome.progress != REFUSED && !only_accepted;
-        let steps = u64::from(outcome.steps) + u64::from(counts);
-        self.steps += steps;
+        let starts = matches!(op, Op::Start { .. }) && outcome.progress != REFUSED;
+        let compared = u64::from(starts || outcome.steps > 0);
+        let within_drain = match op {
+            Op::Drain { .. } => u64::from(outcome.steps),
+            _ => 0,
+        };
+        self.compared += compared;
         let call = match &op {
             Op::Start { call, .. } => call_of(*call),
             _ => turn.call,
@@ -190,7 +225,8 @@ impl Bench {
         let expected = Expected {
             op,
             outcome,
-            steps,
+            compared,
+            within_drain,
             kind: self.shadow.kind,
             capacity: self.shadow.capacity,
             word: self.word(),
@@ -198,7 +234,6 @@ impl Bench {
             named: turn.named,
             call,
             made: turn.made,
-            only_accepted,
         };
         match &mut self.sink {
             Sink::Port(comparer) => comparer.expect(expected),
@@ -301,7 +336,8 @@ impl Bench {
             index_or_room,
             owner,
             mode,
-            listed: list.count,
+            // A bad list is carried on, and read by no call that is accepted.
+            listed: list.count.min(LIST_LIMIT as u8),
             list: list.owners,
         };
         let ending = self.oracle.start(who, request);
@@ -433,17 +469,14 @@ impl Bench {
     }
 
     /// Writes a record's bytes; it is gone by them until they are mended.
-    pub fn damage(&mut self, who: u8, bytes: Vec<u8>) {
+    pub fn damage(&mut self, who: u8, bytes: [u8; RECORD_BYTES]) {
         let at = u32::from(who) * RECORD_BYTES as u32;
-        self.shadow.damaged = Some(Damaged {
-            who,
-            bytes: bytes.clone(),
-        });
-        self.make(Op::PokeRecords(at, bytes));
+        self.shadow.damaged = Some(Damaged { who, bytes });
+        self.make(Op::PokeRecords(at, bytes.to_vec()));
     }
 
     /// Writes the bytes that a damaged record had before.
-    pub fn mend(&mut self, who: u8, bytes: Vec<u8>) {
+    pub fn mend(&mut self, who: u8, bytes: [u8; RECORD_BYTES]) {
         self.damage(who, bytes);
         self.shadow.damaged = None;
     }

@@ -4,14 +4,15 @@
 use std::collections::VecDeque;
 use std::fmt::Debug;
 
+use oracle_paused::Call;
 use simmerhusk::raw::{Buffers, Dock, Op, Port, RECORD_BYTES, Reply};
 
 use crate::coverage::Coverage;
-use crate::expected::{Contents, Expected, Named, REFUSED};
+use crate::expected::{ANSWERED, Contents, Expected, Named, REFUSED};
 use crate::places::{access_at, call_at};
 use crate::progress::Progress;
-use crate::record_bytes::RecordBytes;
-use crate::shadow::List;
+use crate::record_bytes::{RecordBytes, write_list};
+use crate::shadow::{Kind, List};
 use crate::show;
 
 const BATCH_TURNS: usize = 4096;
@@ -36,8 +37,10 @@ pub struct Comparer {
     loaded: String,
     log: VecDeque<Op>,
     turns: u64,
-    /// Accepted starts and steps that were compared.
-    pub steps: u64,
+    /// Accepted starts and steps, and drains, that were compared by themselves.
+    pub compared: u64,
+    /// Steps within those drains.
+    pub within_drains: u64,
     pub progress: Progress,
     pub coverage: Coverage,
 }
@@ -56,7 +59,8 @@ impl Comparer {
             loaded: String::new(),
             log: VecDeque::new(),
             turns: 0,
-            steps: 0,
+            compared: 0,
+            within_drains: 0,
             progress,
             coverage: Coverage::new(),
         }
@@ -124,17 +128,16 @@ impl Comparer {
             self.log.pop_front();
         }
         self.log.push_back(expected.op.clone());
-        if expected.only_accepted {
-            let progress = self.reply.outcome.progress;
-            self.check("refused", &false, &(progress == REFUSED));
-        } else {
-            self.compare_whole(expected);
+        match expected.named {
+            Named::Adrift(..) => self.compare_fixed(expected),
+            _ => self.compare_whole(expected),
         }
         let place = named_place(&self.records, &expected.op);
         self.coverage.note(expected, place);
         self.records.clone_from(&self.reply.dock.records);
-        self.steps += expected.steps;
-        self.progress.steps(self.steps);
+        self.compared += expected.compared;
+        self.within_drains += expected.within_drain;
+        self.progress.steps(self.compared);
     }
 
     /// A part of the run begins: all before it is compared.
@@ -146,8 +149,33 @@ impl Comparer {
     fn compare_whole(&self, expected: &Expected) {
         let reply = &self.reply;
         self.check("outcome", &expected.outcome, &reply.outcome);
-        self.check("capacity", &expected.capacity, &reply.dock.capacity);
         self.check("word", &expected.word, &reply.dock.word);
+        self.compare_entries(expected, 0, 0);
+        self.compare_records(expected);
+    }
+
+    /// Steps of a damaged record, of which the Rust says nothing: what they may not touch.
+    fn compare_fixed(&self, expected: &Expected) {
+        let outcome = &self.reply.outcome;
+        self.check("refused", &false, &(outcome.progress == REFUSED));
+        let most = match expected.op {
+            Op::Drain { budget, .. } => budget,
+            _ => 1,
+        };
+        let steps = (1..=most).contains(&outcome.steps);
+        self.check("as many steps as may be", &true, &steps);
+        let capacity = expected.capacity as usize;
+        match expected.kind {
+            Kind::Plain => self.compare_entries(expected, capacity + 1, capacity),
+            Kind::Robust => self.compare_entries(expected, capacity, 0),
+        }
+        self.compare_records(expected);
+    }
+
+    /// The capacity, and the slots or cells and the custody from one on.
+    fn compare_entries(&self, expected: &Expected, from: usize, from_custody: usize) {
+        let reply = &self.reply;
+        self.check("capacity", &expected.capacity, &reply.dock.capacity);
         match expected.contents {
             Contents::Digests(digests) => self.check("digests", &digests, &reply.digests),
             Contents::Whole {
@@ -163,19 +191,23 @@ impl Comparer {
                         &self.short[slots.0..slots.1],
                         &self.short[custody.0..custody.1],
                     );
-                    self.check("slots", wanted_slots, ported_slots.as_slice());
-                    self.check("custody", wanted_custody, ported_custody.as_slice());
+                    self.check_from(from, "slots", wanted_slots, ported_slots);
+                    self.check_from(from_custody, "custody", wanted_custody, ported_custody);
                 }
                 Buffers::Robust {
                     cells: ported_cells,
-                } => self.check(
-                    "cells",
-                    &self.long[cells.0..cells.1],
-                    ported_cells.as_slice(),
-                ),
+                } => {
+                    let wanted_cells = &self.long[cells.0..cells.1];
+                    self.check_from(from, "cells", wanted_cells, ported_cells);
+                }
             },
         }
-        self.compare_records(expected);
+    }
+
+    fn check_from<T: PartialEq + Debug>(&self, from: usize, what: &str, rust: &[T], port: &[T]) {
+        let lengths = (rust.len(), port.len());
+        self.check(what, &lengths.0, &lengths.1);
+        self.check(what, &rust[from..], &port[from..]);
     }
 
     fn compare_records(&self, expected: &Expected) {
@@ -220,26 +252,39 @@ impl Comparer {
                 self.check("listed record", wanted.as_slice(), after);
             }
             Named::Dead => {
-                self.check("dead", &true, &(after[0] != 0));
+                self.check("dead", &1, &after[0]);
                 self.check("dead record", &before[1..], &after[1..]);
             }
             Named::Before(call, access, list) => {
-                let mut wanted = after.to_vec();
-                wanted[0] = 0;
-                write_list(&mut wanted, list);
-                self.check("living record, list", wanted.as_slice(), after);
-                let record = RecordBytes::of(after);
-                let place = record.place();
-                self.check(
-                    "call of the place",
-                    &Some(call),
-                    &call_at(expected.kind, place),
-                );
-                let ported = access_at(expected.kind, record);
+                self.compare_calling(expected.kind, call, list, after);
+                let ported = access_at(expected.kind, RecordBytes::of(after));
                 self.check("access next", &Some(access), &ported);
             }
+            Named::Bytes(wanted) => self.check("damaged record", wanted.as_slice(), after),
+            Named::Adrift(call, list) => match self.reply.outcome.progress {
+                ANSWERED => {
+                    let list = match call {
+                        Call::Recover => List::default(),
+                        _ => list,
+                    };
+                    let mut wanted = [0; RECORD_BYTES];
+                    write_list(&mut wanted, list);
+                    self.check("idle record", wanted.as_slice(), after);
+                }
+                _ => self.compare_calling(expected.kind, call, list, after),
+            },
             Named::Same | Named::AllIdle | Named::Poked => {}
         }
+    }
+
+    /// A record in that call, with that list.
+    fn compare_calling(&self, kind: Kind, call: Call, list: List, after: &[u8]) {
+        let mut wanted = after.to_vec();
+        wanted[0] = 0;
+        write_list(&mut wanted, list);
+        self.check("living record, list", wanted.as_slice(), after);
+        let place = RecordBytes::of(after).place();
+        self.check("call of the place", &Some(call), &call_at(kind, place));
     }
 
     fn check<T: PartialEq + Debug + ?Sized>(&self, what: &str, rust: &T, port: &T) {
@@ -272,7 +317,8 @@ impl Comparer {
     }
 }
 
-fn who_of(op: &Op) -> Option<u8> {
+/// The record that an op names.
+pub fn who_of(op: &Op) -> Option<u8> {
     match op {
         Op::Start { who, .. }
         | Op::Step { who }
@@ -288,13 +334,5 @@ fn named_place(records: &[u8], op: &Op) -> u8 {
     match records.get(who as usize * RECORD_BYTES + 1) {
         Some(place) => *place,
         None => 0,
-    }
-}
-
-fn write_list(record: &mut [u8], list: List) {
-    record[3] = list.count;
-    for (number, owner) in list.owners.iter().enumerate() {
-        let at = 68 + 8 * number;
-        record[at..at + 8].copy_from_slice(&owner.to_le_bytes());
     }
 }

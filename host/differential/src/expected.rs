@@ -1,7 +1,7 @@
 //! What a turn must come back with and leave behind.
 
 use oracle_paused::{Access, Call};
-use simmerhusk::raw::{Op, Outcome};
+use simmerhusk::raw::{Op, Outcome, RECORD_BYTES};
 
 use crate::shadow::{Kind, List};
 
@@ -23,6 +23,11 @@ pub enum Named {
     Before(Call, Access, List),
     Dead,
     Listed(List),
+    /// These bytes: a damaged record, and an op that says what becomes of it.
+    Bytes([u8; RECORD_BYTES]),
+    /// A damaged record has made steps of that call with that list. The Rust says nothing of it: only what
+    /// no such step may change is compared, and the scene ends with it.
+    Adrift(Call, List),
     /// As the op pokes them.
     Poked,
 }
@@ -49,8 +54,10 @@ pub enum Contents {
 pub struct Expected {
     pub op: Op,
     pub outcome: Outcome,
-    /// An accepted start, or accepted steps.
-    pub steps: u64,
+    /// 1 of an accepted start, an accepted step, or a drain that made steps.
+    pub compared: u64,
+    /// The steps that a drain made: only where it ends is compared.
+    pub within_drain: u64,
     pub kind: Kind,
     pub capacity: u32,
     pub word: u64,
@@ -59,8 +66,6 @@ pub struct Expected {
     /// The call that the op belongs to, and the one access of a step.
     pub call: Option<Call>,
     pub made: Option<Made>,
-    /// Only that the op is not refused is compared; the scene ends with it.
-    pub only_accepted: bool,
 }
 
 /// FNV-1a 64.

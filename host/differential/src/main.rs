@@ -113,7 +113,11 @@ fn run(options: &Options) -> ExitCode {
     if !wrong.is_empty() {
         return ExitCode::FAILURE;
     }
-    println!("{} steps compared, 0 differences", comparer.steps);
+    println!(
+        "besides, {} steps within drains, whose ends were compared",
+        comparer.within_drains
+    );
+    println!("{} steps compared, 0 differences", comparer.compared);
     ExitCode::SUCCESS
 }
 
@@ -133,6 +137,7 @@ fn scenes(bench: &mut Bench, options: &Options) {
     whole_calls::round(bench, seed, 60);
     bench.comparer().enter("damaged records");
     damage::all_pairs(bench);
+    damage::lists_deaths_setups(bench);
     damage::alone(bench, seed, 4_000);
     bench.comparer().enter("once around the tag");
     long::all(bench);
@@ -146,7 +151,9 @@ fn scenes(bench: &mut Bench, options: &Options) {
     limits::all(bench);
     bench.comparer().enter("random scenes");
     let mut number = 200;
-    while bench.steps < options.steps {
+    // Up to what is asked for, and never less than half of that, whatever was compared before.
+    let asked = options.steps.max(bench.compared + options.steps / 2);
+    while bench.compared < asked {
         random_scenes::scene(bench, seed, number);
         if number % 1_000 == 0 {
             whole_calls::round(bench, seed.wrapping_add(number), 60);

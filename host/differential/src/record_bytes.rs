@@ -2,7 +2,7 @@
 
 pub use simmerhusk::raw::RECORD_BYTES;
 
-use crate::shadow::Kind;
+use crate::shadow::{Kind, List};
 use crate::words::{LOCKED, borrowed_of, head_of};
 
 #[derive(Clone, Copy)]
@@ -82,13 +82,20 @@ impl<'a> RecordBytes<'a> {
         self.eight(60)
     }
 
-    pub fn listed_owner(&self, number: usize) -> u64 {
+    fn listed_owner(&self, number: usize) -> u64 {
         self.eight(68 + 8 * number)
     }
 
+    /// As it stands there, good or bad.
+    pub fn list(&self) -> List {
+        List {
+            count: self.listed(),
+            owners: std::array::from_fn(|number| self.listed_owner(number)),
+        }
+    }
+
     pub fn has_good_list(&self) -> bool {
-        let count = self.listed() as usize;
-        count <= 8 && (0..count).all(|number| self.listed_owner(number) != u64::MAX)
+        self.list().is_good()
     }
 
     /// Whether the call, from its place on, remembers only what some look may leave.
@@ -179,5 +186,13 @@ impl<'a> RecordBytes<'a> {
             }
             _ => true,
         }
+    }
+}
+
+pub fn write_list(record: &mut [u8], list: List) {
+    record[3] = list.count;
+    for (number, owner) in list.owners.iter().enumerate() {
+        let at = 68 + 8 * number;
+        record[at..at + 8].copy_from_slice(&owner.to_le_bytes());
     }
 }

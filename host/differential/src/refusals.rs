@@ -72,7 +72,10 @@ fn opens(shadow: &Shadow, who: u8) -> bool {
 }
 
 fn has_good_list(shadow: &Shadow, who: u8) -> bool {
-    bytes(shadow, who).is_none_or(|record| record.has_good_list())
+    match bytes(shadow, who) {
+        Some(record) => record.has_good_list(),
+        None => shadow.lists[who as usize].is_good(),
+    }
 }
 
 fn called(shadow: &Shadow, who: u8) -> Option<u32> {

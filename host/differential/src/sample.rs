@@ -24,7 +24,7 @@ pub fn record(file: &str) -> ExitCode {
     println!(
         "{} turns, {} accepted starts and steps, {} bytes",
         recording.turns,
-        bench.steps,
+        bench.compared,
         recording.bytes.len()
     );
     match std::fs::write(file, &recording.bytes) {

@@ -30,7 +30,7 @@ pub enum Life {
     Dead,
 }
 
-/// A list of owners, 0 beyond its count.
+/// A list of owners, 0 beyond its count unless its bytes were poked.
 #[derive(Debug, Clone, Copy, PartialEq, Eq, Default)]
 pub struct List {
     pub count: u8,
@@ -46,13 +46,19 @@ impl List {
         list.owners[..owners.len()].copy_from_slice(owners);
         list
     }
+
+    /// A poked one may have above 8 owners, or u64::MAX among those that it counts.
+    pub fn is_good(&self) -> bool {
+        let counted = self.owners.get(..self.count as usize);
+        counted.is_some_and(|owners| !owners.contains(&u64::MAX))
+    }
 }
 
 /// A record whose bytes were poked: it is gone by, not by its life.
 #[derive(Debug, Clone, PartialEq, Eq)]
 pub struct Damaged {
     pub who: u8,
-    pub bytes: Vec<u8>,
+    pub bytes: [u8; RECORD_BYTES],
 }
 
 #[derive(Debug, Clone)]

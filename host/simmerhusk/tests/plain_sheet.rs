@@ -1,9 +1,12 @@
 //! The bench sheet's lines of the plain set.
 
+mod common;
+
+use common::{acquired, call, last_step, start, steps};
 use simmerhusk::raw::{Buffers, Dock, Op, Port, Reply, RECORD_BYTES};
 use simmerhusk::{
     AcquireFailure, Answer, Error, HeadWord, Index, PlainCall, PlainDock, Progress, RecordNumber,
-    RecordState, ReleaseMode, ReleaseState, Turn,
+    RecordState, ReleaseMode, ReleaseState,
 };
 
 const FIRST: RecordNumber = RecordNumber(0);
@@ -15,47 +18,6 @@ fn fresh(capacity: u32, records: u8) -> Result<PlainDock, Error> {
     let mut dock = PlainDock::of_capacity(capacity, records)?;
     assert_eq!(dock.setup(capacity)?, Progress::Accepted);
     Ok(dock)
-}
-
-fn start(dock: &mut PlainDock, who: RecordNumber, call: PlainCall) -> Result<(), Error> {
-    assert_eq!(dock.start(who, call)?, Progress::Accepted);
-    assert_eq!(dock.record_state(who), Some(RecordState::Calling));
-    Ok(())
-}
-
-/// Steps that have no answer yet.
-fn steps(dock: &mut PlainDock, who: RecordNumber, count: u32) -> Result<(), Error> {
-    for _ in 0..count {
-        let Turn {
-            progress, steps, ..
-        } = dock.step(who)?;
-        assert_eq!((progress, steps), (Progress::Accepted, 1));
-    }
-    Ok(())
-}
-
-/// The step that ends a call.
-fn last_step(dock: &mut PlainDock, who: RecordNumber, answer: Answer) -> Result<(), Error> {
-    assert_eq!(dock.step(who)?.progress, Progress::Answered(answer));
-    assert_eq!(dock.record_state(who), Some(RecordState::Idle));
-    Ok(())
-}
-
-/// A whole call that takes this many steps.
-fn call(
-    dock: &mut PlainDock,
-    who: RecordNumber,
-    call: PlainCall,
-    count: u32,
-    answer: Answer,
-) -> Result<(), Error> {
-    start(dock, who, call)?;
-    steps(dock, who, count - 1)?;
-    last_step(dock, who, answer)
-}
-
-fn acquired(index: u32) -> Answer {
-    Answer::Acquired(Index(index))
 }
 
 fn release(index: u32, mode: ReleaseMode) -> PlainCall {

@@ -1,5 +1,8 @@
 //! The bench sheet's lines of the robust set.
 
+mod common;
+
+use common::{acquired, call, last_step, start, steps};
 use simmerhusk::{
     AcquireFailure, Answer, Error, Generation, Index, InvalidOwnerValue, Noted, Owner, Progress,
     RecordNumber, RecordState, ReleaseMode, ReleaseState, RobustCall, RobustDock,
@@ -33,44 +36,6 @@ fn release(index: u32, value: u64, mode: ReleaseMode) -> RobustCall {
         owner: owner(value),
         mode,
     }
-}
-
-fn start(dock: &mut RobustDock, who: RecordNumber, call: RobustCall) -> Result<(), Error> {
-    assert_eq!(dock.start(who, call)?, Progress::Accepted);
-    assert_eq!(dock.record_state(who), Some(RecordState::Calling));
-    Ok(())
-}
-
-/// Steps that have no answer yet.
-fn steps(dock: &mut RobustDock, who: RecordNumber, count: u32) -> Result<(), Error> {
-    for _ in 0..count {
-        assert_eq!(dock.step(who)?.progress, Progress::Accepted);
-    }
-    Ok(())
-}
-
-/// The step that ends a call.
-fn last_step(dock: &mut RobustDock, who: RecordNumber, answer: Answer) -> Result<(), Error> {
-    assert_eq!(dock.step(who)?.progress, Progress::Answered(answer));
-    assert_eq!(dock.record_state(who), Some(RecordState::Idle));
-    Ok(())
-}
-
-/// A whole call that takes this many steps.
-fn call(
-    dock: &mut RobustDock,
-    who: RecordNumber,
-    call: RobustCall,
-    count: u32,
-    answer: Answer,
-) -> Result<(), Error> {
-    start(dock, who, call)?;
-    steps(dock, who, count - 1)?;
-    last_step(dock, who, answer)
-}
-
-fn acquired(index: u32) -> Answer {
-    Answer::Acquired(Index(index))
 }
 
 #[test]
