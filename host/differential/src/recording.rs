@@ -51,6 +51,7 @@ impl Recording {
                 who,
                 owners: listed,
             } => {
+                assert!(listed.len() <= 16, "a recorded list is short");
                 unit[1..3].copy_from_slice(&[4, *who]);
                 unit[5] = listed.len() as u8;
                 owners = listed;

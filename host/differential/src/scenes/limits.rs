@@ -171,14 +171,17 @@ fn lists(bench: &mut Bench) {
     bench.load("lists", &fresh(Kind::Robust, 2, 2));
     drained(bench, start(0, ACQUIRE, 0, 7, 0));
     drained(bench, start(0, ACQUIRE, 0, u64::MAX - 1, 0));
-    for count in [0, 1, 8, 9, 20] {
+    // As a byte 256 would be 0, and 264 would be 8.
+    for count in [0, 1, 8, 9, 20, 255, 256, 264] {
         for last in [7, u64::MAX - 1, u64::MAX] {
             let mut owners = vec![3; count];
             if let Some(owner) = owners.last_mut() {
                 *owner = last;
             }
-            bench.make(Op::List { who: 1, owners });
+            let list = Op::List { who: 1, owners };
+            bench.make(list.clone());
             bench.make(start(1, BORROWED, 0, 0, 0));
+            bench.make(list);
             bench.make(Op::List {
                 who: 1,
                 owners: Vec::new(),
@@ -204,7 +207,14 @@ fn lists(bench: &mut Bench) {
     );
     stepped(bench, start(1, RECOVER, 0, 0, 1));
     bench.load("lists of a plain set", &fresh(Kind::Plain, 2, 1));
-    for owners in [vec![], vec![7], vec![u64::MAX], vec![7; 9]] {
+    for owners in [
+        vec![],
+        vec![7],
+        vec![u64::MAX],
+        vec![7; 9],
+        vec![7; 256],
+        vec![7; 264],
+    ] {
         bench.make(Op::List { who: 0, owners });
     }
 }
