@@ -171,7 +171,7 @@ impl Bench {
     pub fn make_damaged(&mut self, op: Op) -> bool {
         let named = match (refusal(&self.shadow, &op), &self.shadow.damaged) {
             (None, Some(damaged)) if who_of(&op) == Some(damaged.who) => {
-                let (who, bytes) = (damaged.who, damaged.bytes.clone());
+                let (who, bytes) = (damaged.who, damaged.bytes);
                 self.named_damaged(&op, who, bytes)
             }
             _ => None,

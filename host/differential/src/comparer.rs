@@ -21,7 +21,7 @@ const LOGGED: usize = 400;
 
 enum Entry {
     Loaded { title: String, dock: Dock },
-    Turn(Expected),
+    Turn(Box<Expected>),
 }
 
 pub struct Comparer {
@@ -94,7 +94,7 @@ impl Comparer {
 
     pub fn expect(&mut self, expected: Expected) {
         self.port.queue(&expected.op);
-        self.queue.push_back(Entry::Turn(expected));
+        self.queue.push_back(Entry::Turn(Box::new(expected)));
         if self.queue.len() >= BATCH_TURNS || self.short.len() + self.long.len() >= BATCH_ENTRIES {
             self.catch_up();
         }

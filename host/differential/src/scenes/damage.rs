@@ -17,13 +17,13 @@ const PLACES: [u8; 62] = [
     103, 104, 105, 106, 107, 108, 111, 112, 127, 128, 192, 254, 255,
 ];
 
-/// Of owners: three that may be listed, and two that may not.
+/// Of owners: two that may not be listed, which leave the list before, and three that may.
 const LISTS: [&[u64]; 5] = [
+    &[8, u64::MAX],
+    &[8; 9],
     &[],
     &[8],
     &[0, 1, 2, 3, 4, 5, 6, u64::MAX - 1],
-    &[8, u64::MAX],
-    &[8; 9],
 ];
 
 /// Changes some of a record's fields, each to something near its limits.
