@@ -142,7 +142,7 @@ fn scenes(bench: &mut Bench, options: &Options) {
     bench.comparer().enter("once around the tag");
     long::all(bench);
     bench.comparer().enter("interleavings");
-    interleavings::all(bench, (options.steps / 4_000).clamp(40, 20_000), seed);
+    interleavings::all(bench, (options.steps / 500).clamp(100, 200_000), seed);
     bench.comparer().enter("random scenes");
     for number in 0..200 {
         random_scenes::scene(bench, seed, number);

@@ -1,5 +1,12 @@
 //! Every interleaving of a few calls, as far as the limits go; beyond them a sample.
+//!
+//! A path is not followed further where it comes to stand as an earlier one did: the same shared words, and
+//! every call has met the same at each of its accesses. Neither side can tell such paths apart, since a call
+//! goes on by nothing but what its own accesses met; the earlier one was followed to all its ends.
 
+use std::collections::HashSet;
+
+use oracle_paused::Access;
 use simmerhusk::raw::Op;
 
 use super::{ACQUIRE, BORROWED, FIND, LOCKED, RECOVER, RELEASE, drained};
@@ -44,7 +51,73 @@ struct Tally {
     scenes: u64,
     complete: u64,
     paths: u64,
+    joined: u64,
     cut: u64,
+}
+
+impl Tally {
+    fn line(&self, name: &str) -> String {
+        let Self {
+            scenes,
+            complete,
+            paths,
+            joined,
+            cut,
+        } = self;
+        let sampled = scenes - complete;
+        format!(
+            "interleavings, {name}: {scenes} scenes, {complete} whole, {sampled} sampled; {paths} paths, {joined} joined, {cut} cut at {STEP_LIMIT} steps"
+        )
+    }
+
+    fn count(&mut self, ended: Ended) {
+        self.paths += 1;
+        match ended {
+            Ended::Over => {}
+            Ended::Joined => self.joined += 1,
+            Ended::Cut => self.cut += 1,
+        }
+    }
+}
+
+/// How a path ended: all calls are over, it stands as an earlier one did, or it was cut.
+#[derive(Clone, Copy)]
+enum Ended {
+    Over,
+    Joined,
+    Cut,
+}
+
+/// What the calls of a path have met so far, one list for each record.
+struct Met(Vec<Vec<u64>>);
+
+impl Met {
+    fn step(&mut self, bench: &mut Bench, who: u8) {
+        let oracle = &bench.oracle;
+        let met = match oracle.pending(who) {
+            Some(Access::LookWord | Access::ExchangeWord { .. }) => oracle.word(),
+            Some(Access::Slot { index }) => u64::from(oracle.slots()[index as usize]),
+            Some(Access::LoadCell { index } | Access::ExchangeCell { index, .. }) => {
+                oracle.cells()[index as usize]
+            }
+            Some(Access::Elsewhere) | None => panic!("record {who} has no access to make"),
+        };
+        self.0[who as usize].push(met);
+        bench.make(Op::Step { who });
+    }
+
+    /// All that either side goes by from here on.
+    fn standing(&self, bench: &Bench) -> Vec<u64> {
+        let mut standing = vec![bench.word()];
+        standing.extend(bench.oracle.slots().iter().map(|slot| u64::from(*slot)));
+        standing.extend(bench.oracle.cells());
+        standing.extend(bench.shadow.custody.iter().map(|entry| u64::from(*entry)));
+        for met in &self.0 {
+            standing.push(met.len() as u64);
+            standing.extend(met);
+        }
+        standing
+    }
 }
 
 /// One scene: who has acquired beforehand, and the calls that are interleaved.
@@ -113,48 +186,71 @@ impl Scene {
         bench.make(start(who, asked.call, index_or_room, owner, asked.mode));
     }
 
-    /// Runs along the choices made before, and the first choice from there on. False if it was cut.
-    fn run(&self, bench: &mut Bench, path: &mut Vec<Choice>, random: Option<&mut Random>) -> bool {
+    /// Runs along the choices made before, and the first choice from there on.
+    fn follow(
+        &self,
+        bench: &mut Bench,
+        path: &mut Vec<Choice>,
+        stood: &mut HashSet<Vec<u64>>,
+    ) -> Ended {
         self.begin(bench);
-        let mut random = random;
+        let mut met = Met(vec![Vec::new(); self.calls.len()]);
+        // Only the last of the choices made before is a new one.
+        let known = path.len().saturating_sub(1);
         for depth in 0..STEP_LIMIT {
             let busy = bench.shadow.busy();
             if busy.is_empty() {
-                return true;
+                return Ended::Over;
             }
             if depth == path.len() {
-                let taken = match &mut random {
-                    Some(random) => random.below(busy.len() as u64) as usize,
-                    None => 0,
-                };
                 path.push(Choice {
-                    taken,
+                    taken: 0,
                     of: busy.len(),
                 });
             }
-            let who = busy[path[depth].taken];
-            bench.make(Op::Step { who });
+            met.step(bench, busy[path[depth].taken]);
+            if depth >= known && !stood.insert(met.standing(bench)) {
+                return Ended::Joined;
+            }
         }
-        bench.shadow.busy().is_empty()
+        self.ended(bench)
     }
 
+    fn by_chance(&self, bench: &mut Bench, random: &mut Random) -> Ended {
+        self.begin(bench);
+        for _ in 0..STEP_LIMIT {
+            let busy = bench.shadow.busy();
+            if busy.is_empty() {
+                return Ended::Over;
+            }
+            let who = random.pick(&busy);
+            bench.make(Op::Step { who });
+        }
+        self.ended(bench)
+    }
+
+    fn ended(&self, bench: &Bench) -> Ended {
+        if bench.shadow.busy().is_empty() {
+            Ended::Over
+        } else {
+            Ended::Cut
+        }
+    }
+
+    /// Every path up to the limit; where there are more, as many again by chance.
     fn explore(&self, bench: &mut Bench, limit: u64, random: &mut Random, tally: &mut Tally) {
         tally.scenes += 1;
         let mut path = Vec::new();
+        let mut stood = HashSet::new();
         for _ in 0..limit {
-            let ended = self.run(bench, &mut path, None);
-            tally.paths += 1;
-            tally.cut += u64::from(!ended);
+            tally.count(self.follow(bench, &mut path, &mut stood));
             if !next(&mut path) {
                 tally.complete += 1;
                 return;
             }
         }
         for _ in 0..limit {
-            path.clear();
-            let ended = self.run(bench, &mut path, Some(random));
-            tally.paths += 1;
-            tally.cut += u64::from(!ended);
+            tally.count(self.by_chance(bench, random));
         }
     }
 }
@@ -217,34 +313,28 @@ fn scenes(kind: Kind, capacities: &[u32], count: usize) -> Vec<Scene> {
     all
 }
 
-/// Each scene's paths in order up to the limit, then as many again by chance.
+/// Every path of each scene: of the plain set all there are, of the robust set up to the limit, and of three
+/// calls up to a twentieth of it.
 pub fn all(bench: &mut Bench, limit: u64, seed: u64) {
     let mut random = Random::new(seed);
+    let all = u64::MAX;
     let parts = [
-        ("plain, two calls", Kind::Plain, [1, 2, 3].as_slice(), 2),
-        ("plain, three calls", Kind::Plain, &[1, 2, 3], 3),
-        ("robust, two calls", Kind::Robust, &[1, 2], 2),
-        ("robust, three calls", Kind::Robust, &[2], 3),
+        (
+            "plain, two calls",
+            Kind::Plain,
+            [1, 2, 3].as_slice(),
+            2,
+            all,
+        ),
+        ("plain, three calls", Kind::Plain, &[1, 2, 3], 3, all),
+        ("robust, two calls", Kind::Robust, &[1, 2], 2, limit),
+        ("robust, three calls", Kind::Robust, &[2], 3, limit / 20),
     ];
-    for (name, kind, capacities, count) in parts {
+    for (name, kind, capacities, count, limit) in parts {
         let mut tally = Tally::default();
-        let scenes = scenes(kind, capacities, count);
-        let limit = if count == 2 {
-            limit
-        } else {
-            (limit / 20).max(4)
-        };
-        for scene in &scenes {
+        for scene in &scenes(kind, capacities, count) {
             scene.explore(bench, limit, &mut random, &mut tally);
         }
-        let line = format!(
-            "interleavings, {name}: {} scenes, {} with every path, {} sampled; {} paths, {} cut at {STEP_LIMIT} steps",
-            tally.scenes,
-            tally.complete,
-            tally.scenes - tally.complete,
-            tally.paths,
-            tally.cut
-        );
-        bench.comparer().progress.say(&line);
+        bench.comparer().progress.say(&tally.line(name));
     }
 }
