@@ -5,7 +5,6 @@ use mathlib.Core.Path.{_≡_, refl, sym, _∙_, ap}
 use mathlib.Core.Bool.{Bool, true, false, cond}
 use mathlib.Core.Logic.{_⊎_, inl, inr}
 use mathlib.Core.List.{List}
-use native.Mathlib.Omega.{arith}
 use borrow.Author.Tests.{le-ltb}
 use lib.Dec.{ltb}
 use lib.ListN.{length, getD, set}
@@ -35,17 +34,12 @@ use Rattle.turns.specs.Robust.{robustTurnOf}
 use Rattle.turns.specs.Docks.{Table, Turned, turnIn}
 use Rattle.turns.proofs.Laws as turnlaws
 use Rattle.turns.proofs.Tables as tables
-use Rattle.record_bytes.specs.Layout.{Fits, recordAt, recordsIn, tableOf, laidAt, recordWritten}
+use Rattle.record_bytes.specs.Layout.{Fits, recordsIn, tableOf, laidAt, recordWritten}
 use Rattle.record_bytes.proofs.Laid.{laid-before, laid-behind}
 use Rattle.record_bytes.proofs.Tables.{in-table, length-all-of, table-written}
 use Rattle.byte_docks.specs.Called.{Called, RecordsAlone, named, recordsAfter, calledBy, diedIn, listedIn}
 use Rattle.byte_docks.specs.Plain.{plainCame, plainCalled}
 use Rattle.byte_docks.specs.Robust.{robustCame, robustCalled}
-
-abbrev kindOf : Progress → ℕ
-kindOf progress.Accepted = 0
-kindOf (progress.Answered a) = 2
-kindOf (progress.Refused why) = 1
 
 -- what a refused call leaves
 pub record Unmoved {S : Type 0} (s : S) (bytes : List ℕ) (c : Called S) : Type 0 where
@@ -68,10 +62,6 @@ pub robust-refused : (who : RecordNumber) (o : Operation) (brought : OwnerList) 
     → robustCalled who o brought s bytes .report .progress ≡ progress.Refused why → Unmoved s bytes (robustCalled who o brought s bytes)
 robust-refused who o brought s bytes why p =
     called-harmless who bytes s _ (turnlaws.robust-harmless (recordsIn bytes) who o brought s (named who bytes)) why p
-
--- accepted is not refused
-pub clash : {X : Type 0} {why : Refusal} → progress.Accepted ≡ progress.Refused why → X
-clash p = let y : _≡_ {A = ℕ} 0 1 = ap (λ (q : Progress). kindOf q) p in absurd (omega (arith, y))
 
 -- nor does a refused death or list
 pub death-refused : (who : RecordNumber) (bytes : List ℕ) (why : Refusal) → diedIn who bytes .report .progress ≡ progress.Refused why → diedIn who bytes .records ≡ bytes

@@ -2,9 +2,8 @@
 -- nothing.
 use Prim.Native.Nat.{ℕ}
 use mathlib.Core.Path.{_≡_, refl, sym, _∙_, ap}
-use mathlib.Core.List as list
-use mathlib.Core.List.{List, [], _∷_, map}
-use lib.ListN.{length, replicate}
+use mathlib.Core.List.{List}
+use Rattle.calls.specs.declared.Progress.{Progress}
 use Rattle.calls.specs.declared.Progress.the-variants as progress
 use Rattle.calls.specs.declared.Refusal.{Refusal}
 use Rattle.calls.specs.declared.Verdict.{Verdict}
@@ -13,34 +12,32 @@ use Rattle.calls.specs.Reports.{acceptedReport}
 use Rattle.thread_records.specs.declared.Record.{Record}
 use Rattle.thread_records.specs.Records.{emptyList, idleRecord}
 use Rattle.thread_records.specs.Effects.{Effect, judged, unchanged}
+use Rattle.thread_records.proofs.Effects.{judged-harmless, taken-harmless}
 use Rattle.unique_index_set.specs.Steps as plain
 use Rattle.unique_index_set.specs.Setups as plainsetup
 use Rattle.robust_unique_index_set.specs.Steps as robust
 use Rattle.robust_unique_index_set.specs.Setups as robustsetup
 use Rattle.turns.specs.Docks.{Table, Turned, setupIn}
-use Rattle.turns.proofs.Tables.{same-map}
+use Rattle.turns.proofs.Tables.{same-map, every}
 use Rattle.record_bytes.specs.Layout.{recordsIn, tableOf}
 use Rattle.record_bytes.proofs.Tables.{length-all-of, table-all}
 use Rattle.record_bytes.proofs.Fitting.{idle-fits}
-use Rattle.byte_docks.specs.Called.{Called, readyFor}
+use Rattle.byte_docks.specs.Called.{allAfter, readyFor}
 use Rattle.byte_docks.specs.Plain.{plainReadied}
 use Rattle.byte_docks.specs.Robust.{robustReadied}
-use Rattle.byte_docks.proofs.Laws.{Unmoved, asTable, clash}
+use Rattle.byte_docks.proofs.Laws.{Unmoved, asTable}
 
 -- what an accepted setup leaves of what is shared, the record being the idle one
 abbrev ready : {S : Type 0} → S → Effect S
 ready s = record { shared = s; thread = idleRecord emptyList; report = acceptedReport }
 
--- each record replaced by one and the same
-map-same : (t : Record) (records : List Record) → map (λ r. t) records ≡ replicate (length records) t
-map-same t [] = refl
-map-same t (r ∷ records) = ap (λ (l : List Record). t ∷ l) (map-same t records)
-
 setup-refused : {S : Type 0} (v : Verdict) (s after : S) (bytes : List ℕ) (why : Refusal)
     → readyFor bytes (judged v s (idleRecord emptyList) (ready after)) .report .progress ≡ progress.Refused why
     → Unmoved s bytes (readyFor bytes (judged v s (idleRecord emptyList) (ready after)))
-setup-refused (Refused w) s after bytes why p = record { shared = refl; records = refl }
-setup-refused Accepted s after bytes why p = clash p
+setup-refused v s after bytes why p =
+    let idle = idleRecord emptyList in
+    let harmless = judged-harmless v s idle (ready after) (taken-harmless s idle (ready after) refl) in
+    record { shared = harmless why p .shared; records = ap (λ (q : Progress). allAfter q (judged v s idle (ready after) .thread) bytes) p }
 
 abbrev read : {S : Type 0} → S → List ℕ → Table S
 read s bytes = record { shared = s; records = tableOf bytes }
@@ -52,7 +49,7 @@ setup-table : {S : Type 0} (v : Verdict) (s after : S) (bytes : List ℕ)
     → asTable (readyFor bytes (judged v s (idleRecord emptyList) (ready after))) ≡ setupIn (λ n z t. judged v z t (ready after)) (read s bytes)
 setup-table (Refused w) s after bytes = ap (found (unchanged s (idleRecord emptyList) w)) (sym (same-map (λ t. t) (λ t. refl) (tableOf bytes)))
 setup-table Accepted s after bytes =
-    ap (found (ready after)) (table-all bytes (idleRecord emptyList) idle-fits ∙ sym (map-same (idleRecord emptyList) (tableOf bytes)))
+    ap (found (ready after)) (table-all bytes (idleRecord emptyList) idle-fits ∙ every (idleRecord emptyList) (tableOf bytes))
 
 pub plain-setup-refused : (capacity : ℕ) (s : plain.Shared) (bytes : List ℕ) (why : Refusal) → plainReadied capacity s bytes .report .progress ≡ progress.Refused why
     → Unmoved s bytes (plainReadied capacity s bytes)

@@ -27,7 +27,7 @@ use Rattle.turns.specs.Plain.{plainTurnOf}
 use Rattle.turns.specs.Robust.{robustTurnOf}
 use Rattle.turns.specs.Docks.{Table, Turned, setupIn, Dock, turn, setUp}
 use Rattle.turns.specs.Docks.Dock.{plainDock, robustDock}
-use Rattle.turns.proofs.Tables.{same-map, there}
+use Rattle.turns.proofs.Tables.{same-map, every, there}
 use Rattle.turns.proofs.Laws.{turn-harmless, setup-harmless}
 use Rattle.dock.specs.declared.Work.{Work}
 use Rattle.dock.specs.declared.Work.the-variants.{Setup, Turn}
@@ -41,10 +41,6 @@ use Rattle.dock.specs.Docks.{workIn}
 -- the record that is read
 abbrev pub readAt : Work → List Record → Record
 readAt w records = getD records (placeOf w) (idleRecord emptyList)
-
-every : (t : Record) (records : List Record) → replicate (length records) t ≡ map (λ u. t) records
-every t [] = refl
-every t (u ∷ records) = ap (λ (l : List Record). t ∷ l) (every t records)
 
 -- a setup: refused, the record that is read is put back as it was; accepted, each is as it leaves one
 setup-works : {S : Type 0} (v : Verdict) (e : Effect S) (s : S) (records : List Record) → isAccepted (e .report .progress) ≡ true

@@ -1,14 +1,13 @@
--- Which records fit their bytes: the idle one, and whatever bytes are read as one; a death keeps it so. Assumes nothing.
-use Prim.Native.Nat.{ℕ, zero, suc, _+_, _*_, _^_, _<_}
-use mathlib.Core.Path.{_≡_, refl}
+-- Which records fit their bytes: the idle one, and whatever bytes are read as one. Assumes nothing.
+use Prim.Native.Nat.{ℕ, zero, suc, _+_, _^_, _<_}
+use mathlib.Core.Path.{refl}
 use mathlib.Core.Bool.{Bool, true, false, not}
 use mathlib.Core.List.{List, [], _∷_}
 use native.Mathlib.Omega.{arith}
 use lib.Dec.{eqb}
 use lib.ListN.{getD}
 use Rattle.byte_numbers.specs.Numbers.{le4, le8}
-use Rattle.thread_records.specs.declared.Record.{Record}
-use Rattle.thread_records.specs.Records.{emptyList, idleRecord, markedDead}
+use Rattle.thread_records.specs.Records.{emptyList, idleRecord}
 use Rattle.record_bytes.specs.Layout.{Fits, deadNumber, narrowFields, middleFields, wideFields, recordAt}
 
 -- every one is below a bound
@@ -36,14 +35,6 @@ idle-fits =
       wide = below (256 ^ 8) (wideFields (idleRecord emptyList)) w (w, (w, (w, (w, (w, (w, (w, (w, (w, (w, (w, (w, (w, tt)))))))))))));
       eight = refl;
     }
-
-pub dead-fits : (t : Record) → Fits t → Fits (markedDead t)
-dead-fits t h = record {
-  narrow = below (256 ^ 1) (narrowFields (markedDead t)) (omega arith) (dead-below true, (h .narrow 1, (h .narrow 2, (h .narrow 3, tt))));
-  middle = h .middle;
-  wide = h .wide;
-  eight = h .eight;
-}
 
 -- whatever bytes there are
 module _ (l : List ℕ) (bytes : (i : ℕ) → getD l i 0 < 256) where

@@ -5,7 +5,7 @@ use Prim.Native.Nat.{ℕ, _≤_, _<_}
 use mathlib.Core.Path.{_≡_, refl, sym, ap, _∙_}
 use mathlib.Core.Bool.{true}
 use mathlib.Core.List.{List, [], _∷_, map}
-use lib.ListN.{length, getD, set, List·getD-eq-default}
+use lib.ListN.{length, getD, set, List·getD-eq-default, replicate}
 use lib.Seq.{getD-set-same, getD-set-other, set-getD, set-out}
 use Rattle.unique_index_set_enums.specs.declared.RecordNumber.{RecordNumber}
 use Rattle.calls.specs.declared.Refusal.{Refusal}
@@ -22,6 +22,11 @@ use Rattle.turns.specs.Docks.{Table, Turned, elsewhere, settled, named, 
 pub same-map : (f : Record → Record) → ((t : Record) → f t ≡ t) → (records : List Record) → map f records ≡ records
 same-map f e [] = refl
 same-map f e (t ∷ records) = rw (e t) (ap (λ (l : List Record). t ∷ l) (same-map f e records))
+
+-- one and the same in place of each
+pub every : (t : Record) (records : List Record) → replicate (length records) t ≡ map (λ u. t) records
+every t [] = refl
+every t (u ∷ records) = ap (λ (l : List Record). t ∷ l) (every t records)
 
 module _ {S : Type 0} (who : RecordNumber) (e : Effect S) (records : List Record) where
   elsewhere-same : map (elsewhere e) records ≡ records
