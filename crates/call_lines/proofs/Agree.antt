@@ -4,8 +4,8 @@ use mathlib.Core.Path.{_≡_, refl}
 use mathlib.Core.Bool.{true, false}
 use mathlib.Core.List.{List}
 use borrow.Author.Tests.{eq-eqb, ne-eqb}
-use lib.ListN.{getD}
-use Rattle.call_lines.specs.Numbers.{agreeBelow}
+use lib.ListN.{length, getD}
+use Rattle.call_lines.specs.Numbers.{agreeBelow, sameEntries}
 
 module _ (a b : List ℕ) where
   pub agreed : (n m : ℕ) → n ≡ suc m → getD a m 0 ≡ getD b m 0 → agreeBelow n a b ≡ agreeBelow m a b
@@ -19,3 +19,12 @@ module _ (a b : List ℕ) where
   pub all-agreed : (n : ℕ) → n ≡ 0 → agreeBelow n a b ≡ true
   unfolding agreeBelow
   all-agreed n e = rw e refl
+
+  -- so are two buffers
+  pub unlike : (length a ≡ length b → ⊥) → false ≡ sameEntries a b
+  unfolding sameEntries
+  unlike h = simp (ne-eqb _ _ h)
+
+  pub alike : length a ≡ length b → agreeBelow (length a) a b ≡ sameEntries a b
+  unfolding sameEntries
+  alike h = simp (eq-eqb _ _ h)

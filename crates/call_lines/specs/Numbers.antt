@@ -1,9 +1,9 @@
--- All the numbers of a record, in an order of the gate's programs' own.
+-- All the numbers of a record, in an order of the gate's programs' own; what is the same.
 use Prim.Native.Nat.{ℕ, zero, suc}
 use mathlib.Core.Bool.{Bool, true, false, cond}
 use mathlib.Core.List.{List, [], _∷_}
 use lib.Dec.{eqb, ltb}
-use lib.ListN.{getD}
+use lib.ListN.{length, getD}
 use Rattle.unique_index_set_enums.specs.Kinds.{owner}
 use Rattle.thread_records.specs.declared.OwnerList.{OwnerList}
 use Rattle.thread_records.specs.declared.Record.{Record}
@@ -45,6 +45,10 @@ recordNumbers t =
 unfoldable pub agreeBelow : ℕ → List ℕ → List ℕ → Bool
 agreeBelow zero a b = true
 agreeBelow (suc n) a b = cond (eqb (getD a n 0) (getD b n 0)) (agreeBelow n a b) false
+
+-- two buffers are the same, entry by entry
+unfoldable pub sameEntries : List ℕ → List ℕ → Bool
+sameEntries a b = cond (eqb (length a) (length b)) (agreeBelow (length a) a b) false
 
 unfoldable pub leastOf : ℕ → ℕ → ℕ
 leastOf count most = cond (ltb most count) most count

@@ -4,7 +4,7 @@ use thread_records::Record;
 ghost use mathlib.Core.Path.{_≡_};
 ghost use Prim.Native.Nat.{_<_, _≤_, _%_};
 ghost use lib.ListN.{length};
-ghost use Rattle.call_lines.specs.Numbers.{flag, ownerAt, recordNumbers, agreeBelow, leastOf};
+ghost use Rattle.call_lines.specs.Numbers.{flag, ownerAt, recordNumbers, agreeBelow, sameEntries, leastOf};
 
 // A line: a letter, and up to six numbers in decimal or, behind an x, in hex.
 pub struct Line {
@@ -184,6 +184,39 @@ pub fn same_record(a: Record, b: Record) -> bool
     while left > 0 {
         left -= 1;
         if one[left] != other[left] {
+            return false;
+        }
+    }
+    true
+}
+
+// Whether two buffers are the same: of slots or custody entries, and of cells.
+pub fn same_entries(a: &[u32], b: &[u32]) -> bool
+    ensures { λ r. ⌜ r ≡ sameEntries (now (a .entry)) (now (b .entry)) ⌝ }
+{
+    if a.len() != b.len() {
+        return false;
+    }
+    let mut left = a.len();
+    while left > 0 {
+        left -= 1;
+        if a[left] != b[left] {
+            return false;
+        }
+    }
+    true
+}
+
+pub fn same_cells(cells: &[u64], others: &[u64]) -> bool
+    ensures { λ r. ⌜ r ≡ sameEntries (now (cells .entry)) (now (others .entry)) ⌝ }
+{
+    if cells.len() != others.len() {
+        return false;
+    }
+    let mut left = cells.len();
+    while left > 0 {
+        left -= 1;
+        if cells[left] != others[left] {
             return false;
         }
     }

@@ -10,17 +10,17 @@ use call_lines::byte;
 use call_lines::least;
 use call_lines::narrow;
 use call_lines::read_line;
+use call_reports::tell_part;
+use call_reports::tell_report;
+use call_reports::text;
 use calls::Request;
 use dock::Task;
 use dock::Turn;
 use dock::Work;
-use telling::tell_comment;
 use telling::tell_left;
 use telling::tell_record;
-use telling::tell_report;
 use telling::tell_steps;
 use telling::tell_world;
-use telling::text;
 use thread_records::OwnerList;
 use turns::Operation;
 use unique_index_set_enums::OwnerId;
@@ -122,7 +122,7 @@ fn told(line: Line, world: World) -> World {
 
 fn turn(input: &[u8], line: Line, at: usize, world: World) -> World {
     if line.command == b'#' {
-        tell_comment(input, at, line.next);
+        tell_part(input, at, line.next);
         return world;
     }
     told(line, world)

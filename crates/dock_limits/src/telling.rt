@@ -1,64 +1,17 @@
-// What is written.
+// What is written of the world of both docks.
 use crate::worlds::Ended;
 use crate::worlds::World;
 use crate::worlds::same_buffers;
 use crate::worlds::same_sets;
 use call_lines::record_numbers;
 use call_lines::same_record;
-use calls::Noted;
-use calls::Progress;
-use calls::Report;
-use libc::STDOUT_FILENO;
+use call_reports::decimal;
+use call_reports::hex;
+use call_reports::tell_cells;
+use call_reports::tell_custody;
+use call_reports::tell_slots;
+use call_reports::text;
 use thread_records::Record;
-
-pub(crate) fn text(words: &[u8]) {
-    io::write_all(STDOUT_FILENO, words);
-}
-
-fn decimal(name: &[u8], value: u64) {
-    io::write_all(STDOUT_FILENO, name);
-    io::print_decimal(STDOUT_FILENO, value);
-}
-
-fn hex(name: &[u8], value: u64, width: usize) {
-    io::write_all(STDOUT_FILENO, name);
-    io::print_hex(STDOUT_FILENO, value, width);
-}
-
-pub(crate) fn tell_comment(input: &[u8], from: usize, end: usize) {
-    if from <= end && end <= input.len() {
-        text(&input[from..end]);
-    }
-}
-
-fn tell_progress(progress: Progress) {
-    match progress {
-        Progress::Accepted => text(b"accepted"),
-        Progress::Answered(answer) => {
-            decimal(b"answer ", answer.number() as u64);
-            decimal(b" value ", answer.value() as u64);
-        }
-        Progress::Refused(why) => decimal(b"refused ", why.number() as u64),
-    }
-}
-
-fn tell_noted(noted: Noted) {
-    match noted {
-        Noted::Nothing => {}
-        Noted::Found(index) => decimal(b" found ", index.0 as u64),
-        Noted::Freed(index, owner) => {
-            decimal(b" freed ", index.0 as u64);
-            decimal(b" ", owner.0);
-        }
-    }
-}
-
-pub(crate) fn tell_report(report: Report) {
-    let progress = report.progress;
-    let noted = report.noted;
-    tell_progress(progress);
-    tell_noted(noted);
-}
 
 pub(crate) fn tell_steps(steps: u32) {
     decimal(b" steps ", steps as u64);
@@ -91,32 +44,6 @@ pub(crate) fn tell_left(before: World, called: Ended) {
     }
 }
 
-fn tell_words(slots: [u32; 8], custody: [u32; 8]) {
-    text(b" slots");
-    let mut i: usize = 0;
-    while i < 8 {
-        let slot = slots[i];
-        decimal(b" ", slot as u64);
-        i += 1;
-    }
-    text(b" custody");
-    let mut k: usize = 0;
-    while k < 8 {
-        let entry = custody[k];
-        hex(b" ", entry as u64, 8);
-        k += 1;
-    }
-}
-
-fn tell_cells(cells: [u64; 8]) {
-    text(b" cells");
-    let mut i: usize = 0;
-    while i < 8 {
-        decimal(b" ", cells[i]);
-        i += 1;
-    }
-}
-
 pub(crate) fn tell_world(world: World) {
     let slots = world.slots;
     let custody = world.custody;
@@ -125,12 +52,13 @@ pub(crate) fn tell_world(world: World) {
     if world.plain {
         decimal(b"set ", world.set.capacity as u64);
         hex(b" ", world.set.head, 16);
-        tell_words(slots, custody);
+        tell_slots(&slots);
+        tell_custody(&custody);
         return;
     }
     decimal(b"set ", world.robust.capacity as u64);
     decimal(b" ", generation.0);
-    tell_cells(cells);
+    tell_cells(&cells);
 }
 
 pub(crate) fn tell_record(world: World, who: u64) {

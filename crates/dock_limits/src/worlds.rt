@@ -4,6 +4,8 @@ use crate::lending::RobustLent;
 use crate::lending::plain_lent;
 use crate::lending::robust_lent;
 use call_lines::least;
+use call_lines::same_cells;
+use call_lines::same_entries;
 use calls::Report;
 use dock::Task;
 use robust_unique_index_set::RobustUniqueIndexSet;
@@ -191,6 +193,10 @@ pub(crate) fn same_sets(a: World, b: World) -> bool {
     a.robust.capacity == b.robust.capacity && one.0 == other.0
 }
 
+fn is_same(a: [u64; 8], b: [u64; 8]) -> bool {
+    same_cells(&a, &b)
+}
+
 pub(crate) fn same_buffers(a: World, b: World) -> bool {
     let a_slots = a.slots;
     let b_slots = b.slots;
@@ -198,12 +204,11 @@ pub(crate) fn same_buffers(a: World, b: World) -> bool {
     let b_custody = b.custody;
     let a_cells = a.cells;
     let b_cells = b.cells;
-    let mut i: usize = 0;
-    while i < 8 {
-        if a_slots[i] != b_slots[i] || a_custody[i] != b_custody[i] || a_cells[i] != b_cells[i] {
-            return false;
-        }
-        i += 1;
+    if !same_entries(&a_slots, &b_slots) {
+        return false;
     }
-    true
+    if !same_entries(&a_custody, &b_custody) {
+        return false;
+    }
+    is_same(a_cells, b_cells)
 }

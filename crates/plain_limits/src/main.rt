@@ -4,7 +4,7 @@ mod worlds;
 
 use call_lines::Line;
 use call_lines::read_line;
-use telling::tell_comment;
+use call_reports::tell_part;
 use worlds::World;
 use worlds::apply;
 use worlds::fresh_world;
@@ -12,7 +12,7 @@ use worlds::fresh_world;
 // The line at a place, done: the world after it.
 fn turn(input: &[u8], line: Line, at: usize, world: World) -> World {
     if line.command == b'#' {
-        tell_comment(input, at, line.next);
+        tell_part(input, at, line.next);
         return world;
     }
     apply(line, world)

@@ -1,53 +1,14 @@
-// What is written.
-use calls::Progress;
-use calls::Report;
-use libc::STDOUT_FILENO;
+// What is written of a plain set's world.
+use crate::worlds::World;
+use call_lines::least;
+use call_reports::decimal;
+use call_reports::hex;
+use call_reports::tell_custody;
+use call_reports::tell_slots;
+use call_reports::text;
 use thread_records::Record;
 
-pub(crate) fn text(words: &[u8]) {
-    io::write_all(STDOUT_FILENO, words);
-}
-
-pub(crate) fn decimal(name: &[u8], value: u64) {
-    io::write_all(STDOUT_FILENO, name);
-    io::print_decimal(STDOUT_FILENO, value);
-}
-
-pub(crate) fn hex(name: &[u8], value: u64, width: usize) {
-    io::write_all(STDOUT_FILENO, name);
-    io::print_hex(STDOUT_FILENO, value, width);
-}
-
-pub(crate) fn tell_comment(input: &[u8], from: usize, end: usize) {
-    if from <= end && end <= input.len() {
-        text(&input[from..end]);
-    }
-}
-
-fn tell_kept(kept: bool) {
-    if kept {
-        text(b" kept");
-        return;
-    }
-    text(b" CHANGED");
-}
-
-pub(crate) fn tell_report(report: Report, kept: bool) {
-    let progress = report.progress;
-    match progress {
-        Progress::Accepted => text(b"accepted"),
-        Progress::Answered(answer) => {
-            decimal(b"answer ", answer.number() as u64);
-            decimal(b" value ", answer.value() as u64);
-        }
-        Progress::Refused(why) => {
-            decimal(b"refused ", why.number() as u64);
-            tell_kept(kept);
-        }
-    }
-}
-
-pub(crate) fn tell_record(thread: Record) {
+fn tell_record(thread: Record) {
     let call = thread.call;
     let list = thread.list;
     if thread.dead {
@@ -63,24 +24,25 @@ pub(crate) fn tell_record(thread: Record) {
     decimal(b" list ", list.count as u64);
 }
 
-pub(crate) fn tell_slots(slots: [u32; 8], count: usize) {
-    text(b" slots");
-    let mut i: usize = 0;
-    while i < 8 && i < count {
-        decimal(b" ", wide(slots[i]));
-        i += 1;
-    }
+fn tell_lent_slots(slots: &[u32], count: usize) {
+    let n = least(count, slots.len());
+    tell_slots(&slots[0..n]);
 }
 
-pub(crate) fn tell_custody(custody: [u32; 8], count: usize) {
-    text(b" custody");
-    let mut i: usize = 0;
-    while i < 8 && i < count {
-        hex(b" ", wide(custody[i]), 8);
-        i += 1;
-    }
+fn tell_lent_custody(custody: &[u32], count: usize) {
+    let n = least(count, custody.len());
+    tell_custody(&custody[0..n]);
 }
 
-fn wide(entry: u32) -> u64 {
-    entry as u64
+pub(crate) fn tell_world(world: World) {
+    let thread = world.thread;
+    let slots = world.slots;
+    let custody = world.custody;
+    let set = world.set;
+    decimal(b"set ", set.capacity() as u64);
+    hex(b" ", set.head, 16);
+    text(b" record");
+    tell_record(thread);
+    tell_lent_slots(&slots, world.slots_lent);
+    tell_lent_custody(&custody, world.custody_lent);
 }

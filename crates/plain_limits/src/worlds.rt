@@ -1,16 +1,14 @@
 // The set, the record and the buffers that the calls are made on, and what each line does.
-use crate::telling::decimal;
-use crate::telling::hex;
-use crate::telling::tell_custody;
-use crate::telling::tell_record;
-use crate::telling::tell_report;
-use crate::telling::tell_slots;
-use crate::telling::text;
+use crate::telling::tell_world;
 use call_lines::Line;
 use call_lines::byte;
 use call_lines::least;
 use call_lines::narrow;
+use call_lines::same_entries;
 use call_lines::same_record;
+use call_reports::decimal;
+use call_reports::tell_judged;
+use call_reports::text;
 use calls::Request;
 use thread_records::OwnerList;
 use thread_records::Record;
@@ -58,15 +56,8 @@ pub(crate) fn fresh_world() -> World {
     }
 }
 
-fn same_entries(a: [u32; 8], b: [u32; 8]) -> bool {
-    let mut i: usize = 0;
-    while i < 8 {
-        if a[i] != b[i] {
-            return false;
-        }
-        i += 1;
-    }
-    true
+fn is_same(a: [u32; 8], b: [u32; 8]) -> bool {
+    same_entries(&a, &b)
 }
 
 fn same_world(a: World, b: World) -> bool {
@@ -82,10 +73,10 @@ fn same_world(a: World, b: World) -> bool {
     if a.set.capacity != b.set.capacity {
         return false;
     }
-    if !same_entries(a_slots, b_slots) {
+    if !is_same(a_slots, b_slots) {
         return false;
     }
-    if same_entries(a_custody, b_custody) {
+    if is_same(a_custody, b_custody) {
         return same_record(a_thread, b_thread);
     }
     false
@@ -107,7 +98,7 @@ fn ended(before: World, stepped: Stepped, slots: [u32; 8], custody: [u32; 8]) ->
         records: before.records,
         who: who,
     };
-    tell_report(report, same_world(before, after));
+    tell_judged(report, same_world(before, after));
     after
 }
 
@@ -226,19 +217,6 @@ fn death_line(world: World) -> World {
         slots,
         custody,
     )
-}
-
-fn tell_world(world: World) {
-    let thread = world.thread;
-    let slots = world.slots;
-    let custody = world.custody;
-    let set = world.set;
-    decimal(b"set ", set.capacity() as u64);
-    hex(b" ", set.head, 16);
-    text(b" record");
-    tell_record(thread);
-    tell_slots(slots, world.slots_lent);
-    tell_custody(custody, world.custody_lent);
 }
 
 // The calls: s capacity; b call index mode (the owner is any); t a step; d budget; k a death.

@@ -1,14 +1,14 @@
 // The calls: s capacity; b call index-or-room owner mode; t a step; d budget; k a death; l a list's count.
-use crate::telling::decimal;
-use crate::telling::tell_report;
 use crate::worlds::World;
 use crate::worlds::copy_cells;
-use crate::worlds::is_same_cells;
 use crate::worlds::is_same_world;
 use call_lines::Line;
 use call_lines::byte;
 use call_lines::least;
 use call_lines::narrow;
+use call_lines::same_cells;
+use call_reports::decimal;
+use call_reports::tell_judged;
 use calls::Report;
 use calls::Request;
 use calls::SetKind;
@@ -45,10 +45,10 @@ fn ended(
         who: who,
     };
     if kept {
-        tell_report(report, is_same_world(world, after));
+        tell_judged(report, is_same_world(world, after));
         return after;
     }
-    tell_report(report, false);
+    tell_judged(report, false);
     after
 }
 
@@ -56,7 +56,7 @@ fn stepped_line(world: World, stepped: Stepped, cells: &[u64], before: &[u64]) -
     let set = stepped.set;
     let thread = stepped.thread;
     let report = stepped.report;
-    ended(world, set, thread, report, is_same_cells(cells, before))
+    ended(world, set, thread, report, same_cells(cells, before))
 }
 
 fn record_line(world: World, left: RecordAfter) -> World {

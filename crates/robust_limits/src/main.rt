@@ -6,13 +6,13 @@ mod worlds;
 
 use call_lines::Line;
 use call_lines::read_line;
+use call_reports::tell_part;
+use call_reports::text;
 use calling::call_line;
 use calling::is_call;
 use lending::lent_line;
 use telling::tell_cell;
-use telling::tell_comment;
 use telling::tell_world;
-use telling::text;
 use worlds::World;
 use worlds::fresh_world;
 
@@ -41,7 +41,7 @@ fn run(input: &[u8], cells: &mut [u64], before: &mut [u64]) {
     while at < input.len() {
         let line = read_line(input, at);
         if line.command == b'#' {
-            tell_comment(input, at, line.next);
+            tell_part(input, at, line.next);
         } else {
             world = told(line, world, cells, before);
         }

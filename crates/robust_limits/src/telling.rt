@@ -1,67 +1,11 @@
-// What is written.
+// What is written of a robust set's world.
 use crate::worlds::World;
 use call_lines::least;
 use call_lines::record_numbers;
-use calls::Noted;
-use calls::Progress;
-use calls::Report;
-use libc::STDOUT_FILENO;
+use call_reports::decimal;
+use call_reports::tell_cells;
+use call_reports::text;
 use thread_records::Record;
-
-pub(crate) fn text(words: &[u8]) {
-    io::write_all(STDOUT_FILENO, words);
-}
-
-pub(crate) fn decimal(name: &[u8], value: u64) {
-    io::write_all(STDOUT_FILENO, name);
-    io::print_decimal(STDOUT_FILENO, value);
-}
-
-pub(crate) fn tell_comment(input: &[u8], from: usize, end: usize) {
-    if from <= end && end <= input.len() {
-        text(&input[from..end]);
-    }
-}
-
-fn tell_kept(kept: bool) {
-    if kept {
-        text(b" kept");
-        return;
-    }
-    text(b" CHANGED");
-}
-
-fn tell_progress(progress: Progress, kept: bool) {
-    match progress {
-        Progress::Accepted => text(b"accepted"),
-        Progress::Answered(answer) => {
-            decimal(b"answer ", answer.number() as u64);
-            decimal(b" value ", answer.value() as u64);
-        }
-        Progress::Refused(why) => {
-            decimal(b"refused ", why.number() as u64);
-            tell_kept(kept);
-        }
-    }
-}
-
-fn tell_noted(noted: Noted) {
-    match noted {
-        Noted::Nothing => {}
-        Noted::Found(index) => decimal(b" found ", index.0 as u64),
-        Noted::Freed(index, owner) => {
-            decimal(b" freed ", index.0 as u64);
-            decimal(b" ", owner.0);
-        }
-    }
-}
-
-pub(crate) fn tell_report(report: Report, kept: bool) {
-    let progress = report.progress;
-    let noted = report.noted;
-    tell_progress(progress, kept);
-    tell_noted(noted);
-}
 
 fn tell_record(thread: Record) {
     let numbers = record_numbers(thread);
@@ -83,19 +27,10 @@ fn tell_record(thread: Record) {
     }
 }
 
-fn tell_cells(cells: &[u64]) {
-    text(b" cells");
-    let mut i: usize = 0;
-    while i < 8 && i < cells.len() {
-        decimal(b" ", cells[i]);
-        i += 1;
-    }
-}
-
 pub(crate) fn tell_world(world: World, cells: &mut [u64]) {
     let thread = world.thread;
     let set = world.set;
-    let n = least(world.cells_lent, cells.len());
+    let n = least(least(world.cells_lent, 8), cells.len());
     decimal(b"set ", set.capacity() as u64);
     decimal(b" ", set.generation.0);
     text(b" record");

@@ -41,17 +41,6 @@ pub(crate) fn copy_cells(cells: &[u64], before: &mut [u64]) {
     }
 }
 
-pub(crate) fn is_same_cells(cells: &[u64], before: &[u64]) -> bool {
-    let mut i: usize = 0;
-    while i < cells.len() && i < before.len() {
-        if cells[i] != before[i] {
-            return false;
-        }
-        i += 1;
-    }
-    true
-}
-
 pub(crate) fn is_same_world(a: World, b: World) -> bool {
     let a_thread = a.thread;
     let b_thread = b.thread;

@@ -21,8 +21,8 @@ loop-holds c = search needs
 read-line-requires : tie.Need-read-line-requires Inv-loop μ-loop
 read-line-requires c κs = search needs
 
-tell-comment-requires : tie.Need-tell-comment-requires Inv-loop μ-loop
-tell-comment-requires c κs = search needs
+tell-part-requires : tie.Need-tell-part-requires Inv-loop μ-loop
+tell-part-requires c κs = search needs
 
 told-requires : tie.Need-told-requires Inv-loop μ-loop
 told-requires c κs = search needs
@@ -57,7 +57,7 @@ run-spec =
     fresh-world-requires
     loop-holds
     read-line-requires
-    tell-comment-requires
+    tell-part-requires
     told-requires
     loop-less
     loop-again

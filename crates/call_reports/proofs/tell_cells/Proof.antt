@@ -1,0 +1,64 @@
+use borrow.Author.Needs.{needs}
+use Prim.Native.Nat.{_-_}
+use lib.ListN.{length}
+use Rattle.call_reports.proofs.tell_cells.Statement.{statement}
+use Rattle.call_reports.proofs.tell_cells.Tie as tie
+use Rattle.call_reports.proofs.decimal.Reads as decimal-reads
+use Rattle.call_reports.proofs.text.Reads as text-reads
+
+abbrev Inv-loop : tie.InvT-loop
+Inv-loop cells i₀ t4 i = Unit {0}
+
+abbrev μ-loop : tie.MeasureT-loop
+μ-loop cells i₀ t4 i = length cells - i
+
+slice-aggregate-text : tie.Need-slice-aggregate-text Inv-loop μ-loop
+slice-aggregate-text c = search needs
+
+text-requires : tie.Need-text-requires Inv-loop μ-loop
+text-requires c κs = search needs
+
+loop-holds : tie.Need-loop-holds Inv-loop μ-loop
+loop-holds c = search needs
+
+slice-aggregate-decimal : tie.Need-slice-aggregate-decimal Inv-loop μ-loop
+slice-aggregate-decimal c = search needs
+
+mul-decimal : tie.Need-mul-decimal Inv-loop μ-loop
+mul-decimal c = search needs
+
+shared-slice-read-decimal : tie.Need-shared-slice-read-decimal Inv-loop μ-loop
+shared-slice-read-decimal c = search needs
+
+decimal-requires : tie.Need-decimal-requires Inv-loop μ-loop
+decimal-requires c κs = search needs
+
+add-i : tie.Need-add-i Inv-loop μ-loop
+add-i c = search needs
+
+loop-less : tie.Need-loop-less Inv-loop μ-loop
+loop-less c = search needs
+
+loop-again : tie.Need-loop-again Inv-loop μ-loop
+loop-again c = search needs
+
+returns : tie.Need-returns Inv-loop μ-loop
+returns c = search needs
+
+pub tell-cells-spec : {M : Type 1} → statement M
+tell-cells-spec =
+    tie.close
+    (tie.spec
+    Inv-loop
+    μ-loop
+    slice-aggregate-text
+    text-requires
+    loop-holds
+    slice-aggregate-decimal
+    mul-decimal
+    shared-slice-read-decimal
+    decimal-requires
+    add-i
+    loop-less
+    loop-again
+    returns)
