@@ -5,7 +5,9 @@ use mathlib.Core.Bool.{Bool, true, false, cond}
 use lib.Dec.{leb, eqb}
 use borrow.Author.Tests.{not-true}
 use Rattle.unique_index_set_enums.specs.declared.Index.{Index}
+use Rattle.unique_index_set_enums.specs.declared.OwnerId.{OwnerId}
 use Rattle.unique_index_set_enums.specs.declared.Generation.{Generation}
+use Rattle.unique_index_set_enums.specs.declared.ReleaseMode.{ReleaseMode}
 use Rattle.unique_index_set_enums.specs.declared.ReleaseState.{ReleaseState}
 use Rattle.unique_index_set_enums.specs.declared.ReleaseState.the-variants as state
 use Rattle.unique_index_set_enums.specs.declared.UniqueIndexSetAcquireFailure.the-variants.{IsLocked}
@@ -15,6 +17,7 @@ use Rattle.unique_index_set_enums.proofs.Choice.{choose, both-true, second-true
 use Rattle.calls.specs.declared.Answer.the-variants as answer
 use Rattle.calls.specs.declared.Progress.the-variants as progress
 use Rattle.thread_records.specs.declared.OwnerList.{OwnerList}
+use Rattle.thread_records.specs.Records.{idleRecord}
 use Rattle.robust_moves.specs.declared.Access.the-variants as access
 use Rattle.robust_moves.specs.declared.Saw.{Saw}
 use Rattle.robust_moves.specs.declared.bump.BumpPlace.{BumpPlace}
@@ -61,6 +64,18 @@ pub locked-acquire : (won : Index) (b : BumpPlace) (g : Generation) (list : Owne
     → isLockedAt g ≡ true → Populated won b list s
 unfolding advanced sharedAfter
 locked-acquire won b g list s e l = record { answers = rw e (rw l refl); cells = bump-leaves b s }
+
+-- a release whose cell is not its owner's answers 6 after that one access: the call is over, and every cell and the generation are as they were
+pub record NotOwned (i : Index) (o : OwnerId) (m : ReleaseMode) (list : OwnerList) (s : Shared) : Type 0 where
+  pub answers : advanced (Release (release.Cell i o m)) list s .report .progress ≡ progress.Answered answer.NotOwned
+  pub over : advanced (Release (release.Cell i o m)) list s .thread ≡ idleRecord list
+  pub cells : advanced (Release (release.Cell i o m)) list s .shared .cells ≡ s .cells
+  pub generation-stays : advanced (Release (release.Cell i o m)) list s .shared .set .generation ≡ s .set .generation
+
+pub not-owned : (i : Index) (o : OwnerId) (m : ReleaseMode) (list : OwnerList) (s : Shared) → sawAt (Release (release.Cell i o m)) s .won ≡ false
+    → NotOwned i o m list s
+unfolding advanced sharedAfter
+not-owned i o m list s lost = record { answers = rw lost refl; over = rw lost refl; cells = rw lost refl; generation-stays = refl }
 
 -- a count whose look meets the lock mark gives 0 with that generation, and the lock exchange then remembers it
 pub locked-count : (capacity : ℕ) (saw : Saw) → isLockedAt (saw .generation) ≡ true → countResumed capacity count.Look saw ≡ counted.Ended (saw .generation) 0

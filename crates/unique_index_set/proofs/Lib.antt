@@ -3,6 +3,7 @@ pub mod Accepted
 pub mod Stays
 pub mod Refused
 pub mod Ends
+pub mod Corners
 pub mod Numbers
 pub mod Fresh
 pub mod Determined
