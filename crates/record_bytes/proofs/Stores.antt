@@ -51,35 +51,30 @@ all-room place width n i m h room =
     let f : width * (n - i) ≡ width * (n - (i + 1)) + width = ap (λ (j : ℕ). width * j) e ∙ mul-suc width (n - (i + 1)) in
     omega (arith, room, f)
 
--- a byte before what is stored, or behind it, stays
-pub stored-below : (l : List ℕ) (at width v i : ℕ) → i < at → getD (stored l at width v) i 0 ≡ getD l i 0
+-- a byte beside what is stored stays
+stored-beside : (l : List ℕ) (at width v i : ℕ) → ((j : ℕ) → at ≤ j → j < at + width → i ≡ j → ⊥) → getD (stored l at width v) i 0 ≡ getD l i 0
 unfolding stored
-stored-below l at zero v i h = refl
-stored-below l at (suc width) v i h =
-    stored-below (set l at (v % 256)) (at + 1) width (v / 256) i (omega arith)
-    ∙ getD-set-other l at i (v % 256) 0 (λ e. omega arith)
+stored-beside l at zero v i apart = refl
+stored-beside l at (suc width) v i apart =
+    stored-beside (set l at (v % 256)) (at + 1) width (v / 256) i (λ (j : ℕ) a b e. apart j (omega (arith, a)) (omega (arith, b)) e)
+    ∙ getD-set-other l at i (v % 256) 0 (λ e. apart at (omega arith) (omega arith) (omega (arith, e)))
 
-pub stored-above : (l : List ℕ) (at width v i : ℕ) → at + width ≤ i → getD (stored l at width v) i 0 ≡ getD l i 0
-unfolding stored
-stored-above l at zero v i h = refl
-stored-above l at (suc width) v i h =
-    stored-above (set l at (v % 256)) (at + 1) width (v / 256) i (omega arith)
-    ∙ getD-set-other l at i (v % 256) 0 (λ e. omega arith)
+all-beside : (width : ℕ) (l : List ℕ) (at : ℕ) (vs : List ℕ) (i : ℕ) → ((j : ℕ) → at ≤ j → j < at + width * length vs → i ≡ j → ⊥)
+    → getD (storedAll width l at vs) i 0 ≡ getD l i 0
+unfolding storedAll
+all-beside width l at [] i apart = refl
+all-beside width l at (v ∷ vs) i apart =
+    all-beside width (stored l at width v) (at + width) vs i (λ (j : ℕ) a b e. apart j (omega (arith, a)) (omega (arith, b, mul-suc width (length vs))) e)
+    ∙ stored-beside l at width v i (λ (j : ℕ) a b e. apart j a (omega (arith, b, mul-suc width (length vs))) e)
 
 pub all-below : (width : ℕ) (l : List ℕ) (at : ℕ) (vs : List ℕ) (i : ℕ) → i < at → getD (storedAll width l at vs) i 0 ≡ getD l i 0
-unfolding storedAll
-all-below width l at [] i h = refl
-all-below width l at (v ∷ vs) i h = all-below width (stored l at width v) (at + width) vs i (omega arith) ∙ stored-below l at width v i h
+all-below width l at vs i h = all-beside width l at vs i (λ (j : ℕ) a b e. omega (arith, h, a, e))
+
+pub all-above : (width : ℕ) (l : List ℕ) (at : ℕ) (vs : List ℕ) (i : ℕ) → at + width * length vs ≤ i → getD (storedAll width l at vs) i 0 ≡ getD l i 0
+all-above width l at vs i h = all-beside width l at vs i (λ (j : ℕ) a b e. omega (arith, h, b, e))
 
 more : (at width n i : ℕ) → at + width * suc n ≤ i → at + width + width * n ≤ i
 more at width n i h = omega (arith, h, mul-suc width n)
-
-pub all-above : (width : ℕ) (l : List ℕ) (at : ℕ) (vs : List ℕ) (i : ℕ) → at + width * length vs ≤ i → getD (storedAll width l at vs) i 0 ≡ getD l i 0
-unfolding storedAll
-all-above width l at [] i h = refl
-all-above width l at (v ∷ vs) i h =
-    let m : at + width + width * length vs ≤ i = more at width (length vs) i h in
-    all-above width (stored l at width v) (at + width) vs i m ∙ stored-above l at width v i (omega (arith, m))
 
 -- the number in so many bytes from a place on
 unfoldable pub loaded : List ℕ → ℕ → ℕ → ℕ
@@ -103,7 +98,7 @@ loaded-stored l at (suc width) v h hv =
     let m : List ℕ = set l at (v % 256) in
     let small : v / 256 < 256 ^ width = omega (arith, rw pow-suc at hv) in
     let a : getD (stored m (at + 1) width (v / 256)) at 0 ≡ v % 256 =
-    stored-below m (at + 1) width (v / 256) at (omega arith) ∙ getD-set-same l at (v % 256) 0 (omega arith) in
+    stored-beside m (at + 1) width (v / 256) at (λ (j : ℕ) a b e. omega (arith, a, e)) ∙ getD-set-same l at (v % 256) 0 (omega arith) in
     let b : loaded (stored m (at + 1) width (v / 256)) (at + 1) width ≡ v / 256 =
     loaded-stored m (at + 1) width (v / 256) (omega (arith, length-set l at (v % 256))) small in
     omega arith
