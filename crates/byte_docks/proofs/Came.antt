@@ -1,12 +1,12 @@
 -- A call that reads one record out of the table, turns it and writes it back, is the definition's. Assumes nothing.
 use Prim.Native.Nat.{ℕ}
-use mathlib.Core.Path.{_≡_, _∙_, ap}
+use mathlib.Core.Path.{_≡_, _∙_, ap, subst}
 use mathlib.Core.List.{List}
 use Rattle.unique_index_set_enums.specs.declared.RecordNumber.{RecordNumber}
 use Rattle.calls.specs.Runs.{Run}
 use Rattle.thread_records.specs.declared.Record.{Record}
 use Rattle.thread_records.specs.Effects.{Effect}
-use Rattle.record_bytes.specs.Layout.{recordsIn}
+use Rattle.record_bytes.specs.Layout.{Fits, recordsIn}
 use Rattle.byte_docks.specs.Called.{Called, named, recordsAfter, allAfter, calledBy, readyFor}
 
 -- the table as it is found beside a turn
@@ -20,6 +20,12 @@ pub called : {S : Type 0} (own : ℕ → Record → Run (Effect S)) (who : Recor
 called own who bytes bytes′ u n t turned counted read written =
     ap (beside u) written
     ∙ ap (calledBy who bytes) (turned ∙ (ap (λ (k : ℕ). own k t) counted ∙ ap (own (recordsIn bytes)) read))
+
+-- the record that it leaves fits its bytes
+pub left-fits : {S : Type 0} (own : ℕ → Record → Run (Effect S)) (who : RecordNumber) (bytes : List ℕ) (u : Run (Effect S)) (n : ℕ) (t : Record)
+    → u ≡ own n t → n ≡ recordsIn bytes → t ≡ named who bytes → Fits (u .left .thread) → Fits (own (recordsIn bytes) (named who bytes) .left .thread)
+left-fits {S} own who bytes u n t turned counted read fits =
+    subst (λ (v : Run (Effect S)). Fits (v .left .thread)) (turned ∙ (ap (λ (k : ℕ). own k t) counted ∙ ap (own (recordsIn bytes)) read)) fits
 
 abbrev pub aside : {S : Type 0} → Effect S → List ℕ → Called S
 aside e bytes = record { shared = e .shared; records = bytes; report = e .report; steps = 0 }

@@ -9,7 +9,7 @@ use Rattle.unique_index_set.specs.Setups.{setupOf}
 use Rattle.turns.specs.declared.Operation.{Operation}
 use Rattle.turns.specs.declared.plain.PlainOutcome.{PlainOutcome}
 use Rattle.turns.specs.Plain.{plainTurnOf}
-use Rattle.record_bytes.specs.Layout.{recordsIn}
+use Rattle.record_bytes.specs.Layout.{Fits, recordsIn}
 use Rattle.byte_docks.specs.Called.{Called, named, calledBy, readyFor}
 
 -- a call's result with the lent buffers as it leaves them
@@ -18,6 +18,10 @@ plainCame r records slots custody = record { shared = shared (r .set) slots cust
 
 abbrev pub plainCalled : RecordNumber → Operation → OwnerList → Shared → List ℕ → Called Shared
 plainCalled who operation brought s bytes = calledBy who bytes (plainTurnOf (recordsIn bytes) who operation brought s (named who bytes))
+
+-- the record that it leaves fits its bytes
+abbrev pub plainFits : RecordNumber → Operation → OwnerList → Shared → List ℕ → Type 0
+plainFits who operation brought s bytes = Fits (plainTurnOf (recordsIn bytes) who operation brought s (named who bytes) .left .thread)
 
 abbrev pub plainReadied : ℕ → Shared → List ℕ → Called Shared
 plainReadied capacity s bytes = readyFor bytes (setupOf (recordsIn bytes) capacity s (idleRecord emptyList))

@@ -1,6 +1,7 @@
 // The calls of a plain set.
 use crate::write_all;
 use crate::write_back;
+use record_bytes::fits;
 use record_bytes::read_record;
 use record_bytes::records_in;
 use thread_records::OwnerList;
@@ -14,7 +15,7 @@ use unique_index_set::setup;
 use unique_index_set_enums::RecordNumber;
 ghost use mathlib.Core.Path.{_≡_};
 ghost use Rattle.unique_index_set.specs.Steps.{shared};
-ghost use Rattle.byte_docks.specs.Plain.{plainCame, plainCalled, plainReadied};
+ghost use Rattle.byte_docks.specs.Plain.{plainCame, plainCalled, plainFits, plainReadied};
 
 pub fn plain_call(
     records: &mut [u8],
@@ -26,11 +27,13 @@ pub fn plain_call(
     brought: OwnerList,
 ) -> PlainOutcome
     ensures { λ r. ⌜ plainCame r (now (records .exit)) (now (slots .exit)) (now (custody .exit)) ≡ plainCalled who operation brought (shared set (now (slots .entry)) (now (custody .entry))) (now (records .entry)) ⌝ }
+    ensures { λ _. ⌜ plainFits who operation brought (shared set (now (slots .entry)) (now (custody .entry))) (now (records .entry)) ⌝ }
 {
     let thread = read_record(records, who);
     let count = records_in(records.len());
     let turned = plain_turn(set, thread, count, who, operation, brought, slots, custody);
     let after = turned.thread;
+    fits(after);
     let outcome = turned.outcome;
     let report = outcome.report;
     write_back(records, who, after, report);

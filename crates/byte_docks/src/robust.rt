@@ -1,6 +1,7 @@
 // The calls of a robust set.
 use crate::write_all;
 use crate::write_back;
+use record_bytes::fits;
 use record_bytes::read_record;
 use record_bytes::records_in;
 use robust_unique_index_set::RobustUniqueIndexSet;
@@ -14,7 +15,7 @@ use turns::robust_turn;
 use unique_index_set_enums::RecordNumber;
 ghost use mathlib.Core.Path.{_≡_};
 ghost use Rattle.robust_unique_index_set.specs.Steps.{shared};
-ghost use Rattle.byte_docks.specs.Robust.{robustCame, robustCalled, robustReadied};
+ghost use Rattle.byte_docks.specs.Robust.{robustCame, robustCalled, robustFits, robustReadied};
 
 pub fn robust_call(
     records: &mut [u8],
@@ -25,11 +26,13 @@ pub fn robust_call(
     brought: OwnerList,
 ) -> RobustOutcome
     ensures { λ r. ⌜ robustCame r (now (records .exit)) (now (cells .exit)) ≡ robustCalled who operation brought (shared set (now (cells .entry))) (now (records .entry)) ⌝ }
+    ensures { λ _. ⌜ robustFits who operation brought (shared set (now (cells .entry))) (now (records .entry)) ⌝ }
 {
     let thread = read_record(records, who);
     let count = records_in(records.len());
     let turned = robust_turn(set, thread, count, who, operation, brought, cells);
     let after = turned.thread;
+    fits(after);
     let outcome = turned.outcome;
     let report = outcome.report;
     write_back(records, who, after, report);

@@ -8,6 +8,8 @@ use lib.Dec.{eqb}
 use lib.ListN.{getD}
 use Rattle.byte_numbers.specs.Numbers.{le4, le8}
 use Rattle.thread_records.specs.Records.{emptyList, idleRecord}
+use Rattle.thread_records.specs.declared.Record.{Record}
+use Rattle.record_bytes.specs.Fitting.{CallFits, ListFits}
 use Rattle.record_bytes.specs.Layout.{Fits, deadNumber, narrowFields, middleFields, wideFields, recordAt}
 
 -- every one is below a bound
@@ -23,6 +25,15 @@ below b (v ∷ l) z each (suc i) = below b l z (each .1) i
 dead-below : (d : Bool) → deadNumber d < 256 ^ 1
 dead-below true = omega arith
 dead-below false = omega arith
+
+-- as its call and its list do
+pub parts-fit : (t : Record) → CallFits (t .call) → ListFits (t .list) → Fits t
+parts-fit t c l = record {
+  narrow = below (256 ^ 1) (narrowFields t) (omega arith) (dead-below (t .dead), (c .place, (c .mode, (l .count, tt))));
+  middle = below (256 ^ 4) (middleFields t) (omega arith) (c .index, (c .value, (c .reported, (c .room, (c .cell, (c .counted, tt))))));
+  wide = below (256 ^ 8) (wideFields t) (omega arith) (c .seen, (c .owner, (c .generation, (c .counted-at, (c .bump, (l .owner0, (l .owner1, (l .owner2, (l .owner3, (l .owner4, (l .owner5, (l .owner6, (l .owner7, tt)))))))))))));
+  eight = l .eight;
+}
 
 pub idle-fits : Fits (idleRecord emptyList)
 idle-fits =

@@ -1,6 +1,7 @@
 // Thread records in a lent table of bytes: one read out of it, one written, all written.
 mod put;
 mod read;
+mod widths;
 
 use byte_numbers::byte_at;
 use put::put_all;
@@ -8,6 +9,7 @@ use read::read_call;
 use read::read_list;
 use thread_records::Record;
 use unique_index_set_enums::RecordNumber;
+pub use widths::fits;
 ghost use mathlib.Core.Path.{_≡_};
 ghost use Prim.Native.Nat.{_/_, _*_, _+_, _≤_};
 ghost use lib.ListN.{length};
