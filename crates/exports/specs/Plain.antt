@@ -2,17 +2,15 @@
 use Prim.Native.Nat.{ℕ}
 use mathlib.Core.List.{List}
 use Rattle.unique_index_set_enums.specs.declared.RecordNumber.{RecordNumber}
-use Rattle.unique_index_set_enums.specs.Kinds.{owner}
 use Rattle.calls.specs.declared.SetKind.the-variants as kind
 use Rattle.thread_records.specs.Records.{emptyList}
 use Rattle.unique_index_set.specs.Steps.{Shared, shared}
-use Rattle.turns.specs.declared.Operation.{Operation}
-use Rattle.turns.specs.declared.Operation.the-variants.{Start, Step, Drain}
+use Rattle.turns.specs.declared.Operation.the-variants.{Step, Drain}
 use Rattle.byte_docks.specs.Called.{Called, listedIn}
-use Rattle.byte_docks.specs.Plain.{plainCalled, plainReadied}
+use Rattle.byte_docks.specs.Plain.{plainCalled, plainReadied, plainFits}
 use Rattle.exports.specs.declared.outcomes.Outcome.{Outcome}
 use Rattle.exports.specs.Outcomes.{RecordsLeft, recordsLeft, withOutcome}
-use Rattle.exports.specs.Brought.{broughtIn}
+use Rattle.exports.specs.Brought.{startAsked, broughtIn}
 
 -- the set by its capacity and its head word, with the buffers that are lent
 abbrev pub plainLent : ℕ → ℕ → List ℕ → List ℕ → Shared
@@ -71,10 +69,8 @@ plainMoved o c = record {
 abbrev pub plainReady : ℕ → Shared → List ℕ → PlainReady
 plainReady asked s bytes = withOutcome plainSet (plainReadied asked s bytes)
 
--- a call's number, an index or the room, an owner, a mode
 abbrev pub plainStart : RecordNumber → ℕ → ℕ → ℕ → ℕ → Shared → List ℕ → PlainStarted
-plainStart who call at o mode s bytes =
-    withOutcome plainBegun (plainCalled who (Start (record { call = call; «index_or_room» = at; owner = owner o; mode = mode })) emptyList s bytes)
+plainStart who call at o mode s bytes = withOutcome plainBegun (plainCalled who (startAsked call at o mode) emptyList s bytes)
 
 abbrev pub plainStep : RecordNumber → Shared → List ℕ → PlainStepped
 plainStep who s bytes = withOutcome plainMoved (plainCalled who Step emptyList s bytes)
@@ -84,3 +80,13 @@ plainDrain who budget s bytes = withOutcome plainMoved (plainCalled who (Drain b
 
 abbrev pub plainList : RecordNumber → List ℕ → List ℕ → RecordsLeft
 plainList who owners bytes = recordsLeft (listedIn kind.Plain who (broughtIn owners) bytes)
+
+-- the record that a start, a step or a drain leaves fits its bytes
+abbrev pub plainStartFits : RecordNumber → ℕ → ℕ → ℕ → ℕ → Shared → List ℕ → Type 0
+plainStartFits who call at o mode s bytes = plainFits who (startAsked call at o mode) emptyList s bytes
+
+abbrev pub plainStepFits : RecordNumber → Shared → List ℕ → Type 0
+plainStepFits who s bytes = plainFits who Step emptyList s bytes
+
+abbrev pub plainDrainFits : RecordNumber → ℕ → Shared → List ℕ → Type 0
+plainDrainFits who budget s bytes = plainFits who (Drain budget) emptyList s bytes

@@ -2,17 +2,16 @@
 use Prim.Native.Nat.{ℕ}
 use mathlib.Core.List.{List}
 use Rattle.unique_index_set_enums.specs.declared.RecordNumber.{RecordNumber}
-use Rattle.unique_index_set_enums.specs.Kinds.{owner, generation}
+use Rattle.unique_index_set_enums.specs.Kinds.{generation}
 use Rattle.calls.specs.declared.SetKind.the-variants as kind
 use Rattle.thread_records.specs.Records.{emptyList}
 use Rattle.robust_unique_index_set.specs.Steps.{Shared, shared}
-use Rattle.turns.specs.declared.Operation.{Operation}
-use Rattle.turns.specs.declared.Operation.the-variants.{Start, Step, Drain}
+use Rattle.turns.specs.declared.Operation.the-variants.{Step, Drain}
 use Rattle.byte_docks.specs.Called.{Called, listedIn}
-use Rattle.byte_docks.specs.Robust.{robustCalled, robustReadied}
+use Rattle.byte_docks.specs.Robust.{robustCalled, robustReadied, robustFits}
 use Rattle.exports.specs.declared.outcomes.Outcome.{Outcome}
 use Rattle.exports.specs.Outcomes.{RecordsLeft, recordsLeft, withOutcome}
-use Rattle.exports.specs.Brought.{broughtIn}
+use Rattle.exports.specs.Brought.{startAsked, broughtIn}
 
 -- the set by its capacity and its generation, with the cells that are lent
 abbrev pub robustLent : ℕ → ℕ → List ℕ → Shared
@@ -65,10 +64,8 @@ robustMoved o c = record {
 abbrev pub robustReady : ℕ → Shared → List ℕ → RobustReady
 robustReady asked s bytes = withOutcome robustSet (robustReadied asked s bytes)
 
--- a call's number, an index or the room, an owner, a mode
 abbrev pub robustStart : RecordNumber → ℕ → ℕ → ℕ → ℕ → Shared → List ℕ → RobustStarted
-robustStart who call at o mode s bytes =
-    withOutcome robustBegun (robustCalled who (Start (record { call = call; «index_or_room» = at; owner = owner o; mode = mode })) emptyList s bytes)
+robustStart who call at o mode s bytes = withOutcome robustBegun (robustCalled who (startAsked call at o mode) emptyList s bytes)
 
 abbrev pub robustStep : RecordNumber → Shared → List ℕ → RobustStepped
 robustStep who s bytes = withOutcome robustMoved (robustCalled who Step emptyList s bytes)
@@ -78,3 +75,13 @@ robustDrain who budget s bytes = withOutcome robustMoved (robustCalled who (Drai
 
 abbrev pub robustList : RecordNumber → List ℕ → List ℕ → RecordsLeft
 robustList who owners bytes = recordsLeft (listedIn kind.Robust who (broughtIn owners) bytes)
+
+-- the record that a start, a step or a drain leaves fits its bytes
+abbrev pub robustStartFits : RecordNumber → ℕ → ℕ → ℕ → ℕ → Shared → List ℕ → Type 0
+robustStartFits who call at o mode s bytes = robustFits who (startAsked call at o mode) emptyList s bytes
+
+abbrev pub robustStepFits : RecordNumber → Shared → List ℕ → Type 0
+robustStepFits who s bytes = robustFits who Step emptyList s bytes
+
+abbrev pub robustDrainFits : RecordNumber → ℕ → Shared → List ℕ → Type 0
+robustDrainFits who budget s bytes = robustFits who (Drain budget) emptyList s bytes

@@ -15,7 +15,7 @@ use unique_index_set_enums::RecordNumber;
 ghost use mathlib.Core.Path.{_≡_};
 ghost use Rattle.unique_index_set_enums.specs.Kinds.{recordNumber};
 ghost use Rattle.exports.specs.Outcomes.{RecordsLeft, recordsLeft};
-ghost use Rattle.exports.specs.Plain.{PlainReady, PlainStarted, PlainStepped, plainLent, plainReady, plainStart, plainStep, plainDrain, plainList};
+ghost use Rattle.exports.specs.Plain.{PlainReady, PlainStarted, PlainStepped, plainLent, plainReady, plainStart, plainStep, plainDrain, plainList, plainStartFits, plainStepFits, plainDrainFits};
 
 // An accepted setup leaves the capacity asked and a fresh head word.
 #[no_mangle]
@@ -56,6 +56,7 @@ pub extern "C" fn husk_plain_start(
     mode: u8,
 ) -> Outcome
     ensures { λ r. ⌜ record { outcome = r; records = now (records .exit); slots = now (slots .exit); custody = now (custody .exit) } ≡ plainStart (recordNumber who) call «index_or_room» owner mode (plainLent capacity head (now (slots .entry)) (now (custody .entry))) (now (records .entry)) ⌝ }
+    ensures { λ _. ⌜ plainStartFits (recordNumber who) call «index_or_room» owner mode (plainLent capacity head (now (slots .entry)) (now (custody .entry))) (now (records .entry)) ⌝ }
 {
     let set = UniqueIndexSet {
         capacity: capacity,
@@ -91,6 +92,7 @@ pub extern "C" fn husk_plain_step(
     custody: &mut [u32],
 ) -> Outcome
     ensures { λ r. ⌜ record { outcome = r; head = now (head .exit); records = now (records .exit); slots = now (slots .exit); custody = now (custody .exit) } ≡ plainStep (recordNumber who) (plainLent capacity (now (head .entry)) (now (slots .entry)) (now (custody .entry))) (now (records .entry)) ⌝ }
+    ensures { λ _. ⌜ plainStepFits (recordNumber who) (plainLent capacity (now (head .entry)) (now (slots .entry)) (now (custody .entry))) (now (records .entry)) ⌝ }
 {
     let set = UniqueIndexSet {
         capacity: capacity,
@@ -123,6 +125,7 @@ pub extern "C" fn husk_plain_drain(
     budget: u32,
 ) -> Outcome
     ensures { λ r. ⌜ record { outcome = r; head = now (head .exit); records = now (records .exit); slots = now (slots .exit); custody = now (custody .exit) } ≡ plainDrain (recordNumber who) budget (plainLent capacity (now (head .entry)) (now (slots .entry)) (now (custody .entry))) (now (records .entry)) ⌝ }
+    ensures { λ _. ⌜ plainDrainFits (recordNumber who) budget (plainLent capacity (now (head .entry)) (now (slots .entry)) (now (custody .entry))) (now (records .entry)) ⌝ }
 {
     let set = UniqueIndexSet {
         capacity: capacity,

@@ -16,7 +16,7 @@ use unique_index_set_enums::RecordNumber;
 ghost use mathlib.Core.Path.{_≡_};
 ghost use Rattle.unique_index_set_enums.specs.Kinds.{recordNumber};
 ghost use Rattle.exports.specs.Outcomes.{RecordsLeft, recordsLeft};
-ghost use Rattle.exports.specs.Robust.{RobustReady, RobustStarted, RobustStepped, robustLent, robustReady, robustStart, robustStep, robustDrain, robustList};
+ghost use Rattle.exports.specs.Robust.{RobustReady, RobustStarted, RobustStepped, robustLent, robustReady, robustStart, robustStep, robustDrain, robustList, robustStartFits, robustStepFits, robustDrainFits};
 
 // An accepted setup leaves the capacity asked and generation 0.
 #[no_mangle]
@@ -56,6 +56,7 @@ pub extern "C" fn husk_robust_start(
     mode: u8,
 ) -> Outcome
     ensures { λ r. ⌜ record { outcome = r; records = now (records .exit); cells = now (cells .exit) } ≡ robustStart (recordNumber who) call «index_or_room» owner mode (robustLent capacity generation (now (cells .entry))) (now (records .entry)) ⌝ }
+    ensures { λ _. ⌜ robustStartFits (recordNumber who) call «index_or_room» owner mode (robustLent capacity generation (now (cells .entry))) (now (records .entry)) ⌝ }
 {
     let set = RobustUniqueIndexSet {
         capacity: capacity,
@@ -82,6 +83,7 @@ pub extern "C" fn husk_robust_step(
     cells: &mut [u64],
 ) -> Outcome
     ensures { λ r. ⌜ record { outcome = r; generation = now (generation .exit); records = now (records .exit); cells = now (cells .exit) } ≡ robustStep (recordNumber who) (robustLent capacity (now (generation .entry)) (now (cells .entry))) (now (records .entry)) ⌝ }
+    ensures { λ _. ⌜ robustStepFits (recordNumber who) (robustLent capacity (now (generation .entry)) (now (cells .entry))) (now (records .entry)) ⌝ }
 {
     let set = RobustUniqueIndexSet {
         capacity: capacity,
@@ -113,6 +115,7 @@ pub extern "C" fn husk_robust_drain(
     budget: u32,
 ) -> Outcome
     ensures { λ r. ⌜ record { outcome = r; generation = now (generation .exit); records = now (records .exit); cells = now (cells .exit) } ≡ robustDrain (recordNumber who) budget (robustLent capacity (now (generation .entry)) (now (cells .entry))) (now (records .entry)) ⌝ }
+    ensures { λ _. ⌜ robustDrainFits (recordNumber who) budget (robustLent capacity (now (generation .entry)) (now (cells .entry))) (now (records .entry)) ⌝ }
 {
     let set = RobustUniqueIndexSet {
         capacity: capacity,

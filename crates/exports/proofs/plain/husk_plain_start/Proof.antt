@@ -1,10 +1,10 @@
 use Rattle.exports.proofs.Left.{left}
 use Rattle.exports.specs.Plain.{plainLent, plainBegun}
-use Rattle.byte_docks.specs.Plain.{plainCalled}
-use Rattle.turns.specs.declared.Operation.the-variants.{Start}
-use Rattle.unique_index_set_enums.specs.Kinds.{recordNumber, owner}
+use Rattle.byte_docks.specs.Plain.{plainCalled, plainFits}
+use Rattle.unique_index_set_enums.specs.Kinds.{recordNumber}
 use Rattle.thread_records.specs.declared.OwnerList.{OwnerList}
-use mathlib.Core.Path.{_∙_, ap}
+use mathlib.Core.Path.{_∙_, ap, subst}
+use Rattle.exports.specs.Brought.{startAsked}
 use borrow.Author.Needs.{needs}
 use Rattle.exports.proofs.plain.husk_plain_start.Statement.{statement}
 use Rattle.exports.proofs.plain.husk_plain_start.Tie as tie
@@ -30,9 +30,11 @@ same-length-3 c = search needs
 returns : tie.Need-returns
 returns c =
     let a = c .before .before .before .before .before .before .before .before .before .before .before .before .before .before .before .before .args in
-    left plainBegun _ _ _ (c .outcome-of .ensures)
-    (c .before .before .before .before .before .before .before .before .plain-call .ensures
-    ∙ ap (λ (l : OwnerList). plainCalled (recordNumber (a .who)) (Start (record { call = a .call; «index_or_room» = a .index-or-room; owner = owner (a .owner); mode = a .mode })) l (plainLent (a .capacity) (a .head) (a .slots .now) (a .custody .now)) (a .records .now)) (c .before .before .before .before .before .before .before .before .before .empty-list .ensures))
+    let none = c .before .before .before .before .before .before .before .before .before .empty-list .ensures in
+    let came = c .before .before .before .before .before .before .before .before .plain-call .ensures in (
+      left plainBegun _ _ _ (c .outcome-of .ensures) (came .0 ∙ ap (λ (l : OwnerList). plainCalled (recordNumber (a .who)) (startAsked (a .call) (a .index-or-room) (a .owner) (a .mode)) l (plainLent (a .capacity) (a .head) (a .slots .now) (a .custody .now)) (a .records .now)) none),
+      subst (λ (l : OwnerList). plainFits (recordNumber (a .who)) (startAsked (a .call) (a .index-or-room) (a .owner) (a .mode)) l (plainLent (a .capacity) (a .head) (a .slots .now) (a .custody .now)) (a .records .now)) none (came .1),
+    )
 
 pub husk-plain-start-spec : {M : Type 1} → statement M
 husk-plain-start-spec =

@@ -1,10 +1,10 @@
 use Rattle.exports.proofs.Left.{left}
 use Rattle.exports.specs.Robust.{robustLent, robustMoved}
-use Rattle.byte_docks.specs.Robust.{robustCalled}
+use Rattle.byte_docks.specs.Robust.{robustCalled, robustFits}
 use Rattle.turns.specs.declared.Operation.the-variants.{Drain}
 use Rattle.unique_index_set_enums.specs.Kinds.{recordNumber}
 use Rattle.thread_records.specs.declared.OwnerList.{OwnerList}
-use mathlib.Core.Path.{_∙_, ap}
+use mathlib.Core.Path.{_∙_, ap, subst}
 use borrow.Author.Needs.{needs}
 use Rattle.exports.proofs.robust.husk_robust_drain.Statement.{statement}
 use Rattle.exports.proofs.robust.husk_robust_drain.Tie as tie
@@ -27,9 +27,11 @@ same-length-2 c = search needs
 returns : tie.Need-returns
 returns c =
     let a = c .before .before .before .before .before .before .before .before .before .before .before .before .before .before .before .args in
-    left robustMoved _ _ _ (c .outcome-of .ensures)
-    (c .before .before .before .before .before .before .before .before .robust-call .ensures
-    ∙ ap (λ (l : OwnerList). robustCalled (recordNumber (a .who)) (Drain (a .budget)) l (robustLent (a .capacity) (a .generation .now) (a .cells .now)) (a .records .now)) (c .before .before .before .before .before .before .before .before .before .empty-list .ensures))
+    let none = c .before .before .before .before .before .before .before .before .before .empty-list .ensures in
+    let came = c .before .before .before .before .before .before .before .before .robust-call .ensures in (
+      left robustMoved _ _ _ (c .outcome-of .ensures) (came .0 ∙ ap (λ (l : OwnerList). robustCalled (recordNumber (a .who)) (Drain (a .budget)) l (robustLent (a .capacity) (a .generation .now) (a .cells .now)) (a .records .now)) none),
+      subst (λ (l : OwnerList). robustFits (recordNumber (a .who)) (Drain (a .budget)) l (robustLent (a .capacity) (a .generation .now) (a .cells .now)) (a .records .now)) none (came .1),
+    )
 
 pub husk-robust-drain-spec : {M : Type 1} → statement M
 husk-robust-drain-spec =

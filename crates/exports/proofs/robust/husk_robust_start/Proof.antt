@@ -1,10 +1,10 @@
 use Rattle.exports.proofs.Left.{left}
 use Rattle.exports.specs.Robust.{robustLent, robustBegun}
-use Rattle.byte_docks.specs.Robust.{robustCalled}
-use Rattle.turns.specs.declared.Operation.the-variants.{Start}
-use Rattle.unique_index_set_enums.specs.Kinds.{recordNumber, owner}
+use Rattle.byte_docks.specs.Robust.{robustCalled, robustFits}
+use Rattle.unique_index_set_enums.specs.Kinds.{recordNumber}
 use Rattle.thread_records.specs.declared.OwnerList.{OwnerList}
-use mathlib.Core.Path.{_∙_, ap}
+use mathlib.Core.Path.{_∙_, ap, subst}
+use Rattle.exports.specs.Brought.{startAsked}
 use borrow.Author.Needs.{needs}
 use Rattle.exports.proofs.robust.husk_robust_start.Statement.{statement}
 use Rattle.exports.proofs.robust.husk_robust_start.Tie as tie
@@ -27,9 +27,11 @@ same-length-2 c = search needs
 returns : tie.Need-returns
 returns c =
     let a = c .before .before .before .before .before .before .before .before .before .before .before .before .args in
-    left robustBegun _ _ _ (c .outcome-of .ensures)
-    (c .before .before .before .before .before .before .robust-call .ensures
-    ∙ ap (λ (l : OwnerList). robustCalled (recordNumber (a .who)) (Start (record { call = a .call; «index_or_room» = a .index-or-room; owner = owner (a .owner); mode = a .mode })) l (robustLent (a .capacity) (a .generation) (a .cells .now)) (a .records .now)) (c .before .before .before .before .before .before .before .empty-list .ensures))
+    let none = c .before .before .before .before .before .before .before .empty-list .ensures in
+    let came = c .before .before .before .before .before .before .robust-call .ensures in (
+      left robustBegun _ _ _ (c .outcome-of .ensures) (came .0 ∙ ap (λ (l : OwnerList). robustCalled (recordNumber (a .who)) (startAsked (a .call) (a .index-or-room) (a .owner) (a .mode)) l (robustLent (a .capacity) (a .generation) (a .cells .now)) (a .records .now)) none),
+      subst (λ (l : OwnerList). robustFits (recordNumber (a .who)) (startAsked (a .call) (a .index-or-room) (a .owner) (a .mode)) l (robustLent (a .capacity) (a .generation) (a .cells .now)) (a .records .now)) none (came .1),
+    )
 
 pub husk-robust-start-spec : {M : Type 1} → statement M
 husk-robust-start-spec =
