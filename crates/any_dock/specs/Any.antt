@@ -69,9 +69,6 @@ abbrev pub worksOn : Work → OwnerList → AnySet → List ℕ → List ℕ →
 worksOn w brought (Plain s) slots custody cells records = plainTableAmong cells (plainWorks w brought (table (plain.shared s slots custody) records))
 worksOn w brought (Robust s) slots custody cells records = robustTableAmong slots custody (robustWorks w brought (table (robust.shared s cells) records))
 
-abbrev pub anyWorks : Work → OwnerList → Table AnyShared → Turned (Table AnyShared)
-anyWorks w brought d = worksOn w brought (d .shared .set) (d .shared .slots) (d .shared .custody) (d .shared .cells) (d .records)
-
 -- which dock it is
 abbrev pub dockOn : AnySet → List ℕ → List ℕ → List ℕ → List Record → Dock
 dockOn (Plain s) slots custody cells records = plainDock (table (plain.shared s slots custody) records)

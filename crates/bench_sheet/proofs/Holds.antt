@@ -1,6 +1,6 @@
 -- The bench sheet holds: every row, computed by the checker, is what the scope states. Assumes nothing.
 use mathlib.Core.Path.{_≡_, refl}
-use mathlib.Core.List.{List, map}
+use mathlib.Core.List.{map}
 use Rattle.unique_index_set_enums.specs.Numbers as unique-index-set-enums-numbers
 use Rattle.unique_index_set_enums.specs.Robust as unique-index-set-enums-robust
 use Rattle.calls.specs.Numbers as calls-numbers

@@ -1,4 +1,4 @@
-// What the gate's programs write to standard output: words, numbers, what a call came back with, the entries of a buffer.
+// What the programs of limits write to standard output: words, numbers, what a call came back with, the entries of a buffer.
 use calls::Noted;
 use calls::Progress;
 use calls::Report;

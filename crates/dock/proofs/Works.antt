@@ -4,8 +4,8 @@ use Prim.Native.Nat.{ℕ, zero, suc, _<_}
 use native.Mathlib.Nat.{not-suc-le-zero, le-of-suc-le-suc}
 use mathlib.Core.Path.{_≡_, refl, sym, ap, _∙_}
 use mathlib.Core.Bool.{true}
-use mathlib.Core.List.{List, [], _∷_, _++_, map}
-use lib.ListN.{length, getD, set, take, drop, take-append-drop, replicate}
+use mathlib.Core.List.{List, [], _∷_, _++_}
+use lib.ListN.{length, getD, set, take, drop, take-append-drop}
 use lib.Seq.{set-getD}
 use Rattle.calls.specs.declared.Refusal.{Refusal}
 use Rattle.calls.specs.declared.Progress.the-variants as progress
@@ -76,8 +76,7 @@ module _ (w : Work) (brought : OwnerList) (records left : List Record) (t : Reco
       ∙ ap (λ (u : Worked robust.Shared). workedTable u records) (e ∙ ap (robustWorkOf (length records) w brought s) read)
       ∙ robust-works w brought s records
 
--- whoever keeps a longer table by value and lends the first n of it: below n a record is read and stored in the whole table as in the part,
--- and an accepted setup writes the first n
+-- whoever keeps a longer table by value and lends the first n of it: below n a record is read and stored in the whole table as in the part
 pub lent-read : (n i : ℕ) (held : List Record) (d : Record) → i < n → getD (take n held) i d ≡ getD held i d
 lent-read zero i held d l = absurd (not-suc-le-zero l)
 lent-read (suc n) i [] d l = refl

@@ -1,10 +1,9 @@
 -- An exported call that comes back refused, by its number, has changed nothing. Assumes nothing.
 use Prim.Native.Nat.{ℕ}
-use mathlib.Core.Path.{_≡_, refl, sym, _∙_, ap}
+use mathlib.Core.Path.{_≡_, refl}
 use mathlib.Core.List.{List}
 use native.Mathlib.Omega.{arith}
 use Rattle.unique_index_set_enums.specs.declared.RecordNumber.{RecordNumber}
-use Rattle.unique_index_set_enums.specs.Kinds.{owner}
 use Rattle.calls.specs.declared.Progress.{Progress}
 use Rattle.calls.specs.declared.Progress.the-variants.{Accepted, Answered, Refused}
 use Rattle.calls.specs.declared.Refusal.{Refusal}
@@ -13,7 +12,7 @@ use Rattle.thread_records.specs.Records.{emptyList}
 use Rattle.unique_index_set.specs.Steps as plain
 use Rattle.robust_unique_index_set.specs.Steps as robust
 use Rattle.turns.specs.declared.Operation.{Operation}
-use Rattle.byte_docks.specs.Called.{Called, RecordsAlone, diedIn, listedIn}
+use Rattle.byte_docks.specs.Called.{diedIn, listedIn}
 use Rattle.byte_docks.specs.Plain.{plainCalled, plainReadied}
 use Rattle.byte_docks.specs.Robust.{robustCalled, robustReadied}
 use Rattle.byte_docks.proofs.Laws.{Unmoved, plain-refused, robust-refused, death-refused, list-refused}

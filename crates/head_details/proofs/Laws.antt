@@ -1,6 +1,6 @@
 -- The head word's round trips: details whose fields fit their bits are unpacked again from their word, and any 64-bit word is packed
 -- again from its details. Assumes nothing.
-use Prim.Native.Nat.{ℕ, _<_, _%_, _^_}
+use Prim.Native.Nat.{ℕ, _<_, _^_}
 use mathlib.Core.Path.{_≡_}
 use native.Mathlib.Omega.{arith}
 use Rattle.head_details.specs.declared.HeadDetails.{HeadDetails}
@@ -8,16 +8,6 @@ use Rattle.head_details.specs.Word.{headOf, tagOf, borrowedOf, details, 
 
 pub unpacked-as : (w : ℕ) (d : HeadDetails) → Unpacked w d → d ≡ unpacked w
 unpacked-as w d u = simp (← u .head, ← u .aba, ← u .borrowed)
-
-module _ (d : HeadDetails) (t : d .aba .0 < 2 ^ 16) where
-  pub head-packed : headOf (packed d) ≡ d .head .0 % 2 ^ 24
-  head-packed = omega arith
-
-  pub tag-packed : tagOf (packed d) ≡ d .aba .0
-  tag-packed = omega arith
-
-  pub borrowed-packed : borrowedOf (packed d) ≡ d .«borrowed_indices» % 2 ^ 24
-  borrowed-packed = omega arith
 
 pub unpacked-packed : (h t b : ℕ) → h < 2 ^ 24 → t < 2 ^ 16 → b < 2 ^ 24 → unpacked (packed (details h t b)) ≡ details h t b
 unpacked-packed h t b h' t' b' =

@@ -8,7 +8,7 @@ use unique_index_set_enums::ModeRead;
 use unique_index_set_enums::ReleaseMode;
 use unique_index_set_enums::read_mode;
 ghost use mathlib.Core.Path.{_≡_};
-ghost use Rattle.plain_places.specs.Places.{mayAcquire, mayRelease, sound, releaseRead, placeRead, openedFrom, openedAt, closedAt};
+ghost use Rattle.plain_places.specs.Places.{mayAcquire, mayRelease, sound, releaseRead, placeRead, openedAt, closedAt};
 
 // Where a call stands, before the one shared access that it makes next, with what it can still read: the head word
 // that it saw, the slot's value that it read, the index that it won or gives back, the mode.

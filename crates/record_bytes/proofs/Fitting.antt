@@ -1,4 +1,4 @@
--- Which records fit their bytes: the idle one, and whatever bytes are read as one. Assumes nothing.
+-- Which records fit their bytes: those whose call and list do, the idle one, and whatever bytes are read as one. Assumes nothing.
 use Prim.Native.Nat.{ℕ, zero, suc, _+_, _^_, _<_}
 use mathlib.Core.Path.{refl}
 use mathlib.Core.Bool.{Bool, true, false, not}

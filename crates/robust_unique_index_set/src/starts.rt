@@ -23,8 +23,6 @@ use thread_records::live_record;
 use unique_index_set_enums::ROBUST_CAPACITY_LIMIT;
 use unique_index_set_enums::RecordNumber;
 ghost use mathlib.Core.Path.{_≡_};
-ghost use Rattle.calls.specs.Numbers.{callRead};
-ghost use Rattle.robust_calls.specs.Asks.{listDamaged};
 ghost use Rattle.robust_unique_index_set.specs.Steps.{shared, leaves};
 ghost use Rattle.robust_unique_index_set.specs.Starts.{startVerdict, enteredAt, startOf};
 

@@ -28,7 +28,7 @@ use Rattle.unique_index_set.specs.Custodies.{marked}
 use Rattle.unique_index_set.specs.Steps.{Shared, sawAt, nextAt, sharedAfter}
 use Rattle.stack_order.specs.Stack.{Called, acquire, release, locks, stateOf}
 use Rattle.stack_order.specs.History.{callAt, exchangesAt, winsAt, looksAt, endsWith, ordersAt}
-use Rattle.stack_order.specs.Machine as M
+use Rattle.stack_order.proofs.Machine as M
 
 -- the set's places and words as the machine's
 abbrev pub placeIn : Place → M.Place

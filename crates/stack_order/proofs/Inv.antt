@@ -7,9 +7,9 @@ use native.Mathlib.Omega.{arith}
 use native.Mathlib.Decide.{ℕ-discrete}
 use lib.ListN.{length, getD, set}
 use lib.Seq.{getD-set-same, getD-set-other}
-use Rattle.stack_order.specs.Machine.{headOf, tagOf, borOf, lockMark, free, Place, idle, acquire-look, borrowed-look, locked-look, acquire-read, acquire-exchange, acquire-write, release-look, release-write, release-exchange, Rec, nobody, at}
+use Rattle.stack_order.proofs.Machine.{headOf, tagOf, borOf, lockMark, free, Place, idle, acquire-look, borrowed-look, locked-look, acquire-read, acquire-exchange, acquire-write, release-look, release-write, release-exchange, Rec, nobody, at}
 use Rattle.stack_order.proofs.Lists.{below, top, second, Chain}
-use Rattle.stack_order.specs.Model.{Held, HeldAt, State, live-place, live-of}
+use Rattle.stack_order.proofs.Model.{Held, HeldAt, State, live-place, live-of}
 use Rattle.stack_order.specs.Stack.{count, Stack}
 
 -- the index that a record's next writes may touch

@@ -47,8 +47,8 @@ use Rattle.unique_index_set.proofs.Stays.{Ready, stepped, ready-sound, accepted
 use Rattle.stack_order.specs.Stack.{Call}
 use Rattle.stack_order.specs.History.{Event, changes, lookedAt, startEvent, exchangesAt, winsAt, looksAt, ordersAt, stepEvent, Young}
 use Rattle.stack_order.specs.Runs.{ifTaken, openedEvent}
-use Rattle.stack_order.specs.Machine as M
-use Rattle.stack_order.specs.Model.{State, place-of, Turned, applied, Turns, steps, acquires, counts-out, asks, releases}
+use Rattle.stack_order.proofs.Machine as M
+use Rattle.stack_order.proofs.Model.{State, place-of, Turned, applied, Turns, steps, acquires, counts-out, asks, releases}
 use Rattle.stack_order.proofs.Sound.{Sound, sound-next, sound-order}
 use Rattle.stack_order.specs.Demand.{InOrder}
 use Rattle.stack_order.proofs.Bridge.{placeIn, sharedIn, standsNext, Same, same-step}

@@ -1,3 +1,5 @@
+pub mod Machine
+pub mod Model
 pub mod Lists
 pub mod Words
 pub mod Inv

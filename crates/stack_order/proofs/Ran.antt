@@ -31,8 +31,8 @@ use Rattle.turns.specs.Docks.{Table, Turned}
 use Rattle.turns.proofs.Tables.{there}
 use Rattle.stack_order.specs.History.{Event, Young}
 use Rattle.stack_order.specs.Runs.{Entry, turned, stepEvents, stepsEvents, eventsOf, events, World, after, ran}
-use Rattle.stack_order.specs.Machine as M
-use Rattle.stack_order.specs.Model.{death-put}
+use Rattle.stack_order.proofs.Machine as M
+use Rattle.stack_order.proofs.Model.{death-put}
 use Rattle.stack_order.proofs.Sound.{Sound, sound-death}
 use Rattle.stack_order.proofs.Bridge.{sharedIn}
 use Rattle.stack_order.proofs.Lawful.{alive, inRec, stateOf, damagedAt, Good, map-put, map-get, nothing-done, calling, step-turn, start-turn}

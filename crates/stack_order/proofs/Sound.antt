@@ -12,9 +12,9 @@ use borrow.Author.Tests.{eq-eqb, ne-eqb}
 use Rattle.stack_order.specs.Stack.{Called, acquire, borrowedIndices, isLocked, release, Call, Stack, count, taken, takenAnswer, stackAfter, stackAnswer, Allowed, upFrom, freshStack, replay, Answers}
 use Rattle.stack_order.specs.History.{Event, changes, lookedAt, ordered, startedBy, orderedBy, answeredBy, custodyAfter, inCustody}
 use Rattle.stack_order.specs.Demand.{RunsOut}
-use Rattle.stack_order.specs.Machine.{headOf, tagOf, borOf, lockMark, out-of-indices, free, Place, idle, nobody, acquire-look, borrowed-look, locked-look, acquire-read, acquire-exchange, acquire-write, release-look, release-write, release-exchange}
+use Rattle.stack_order.proofs.Machine.{headOf, tagOf, borOf, lockMark, out-of-indices, free, Place, idle, nobody, acquire-look, borrowed-look, locked-look, acquire-read, acquire-exchange, acquire-write, release-look, release-write, release-exchange}
 use Rattle.stack_order.proofs.Lists.{same, same-eq, same-other, below, below-lt, below-ge, Chain}
-use Rattle.stack_order.specs.Model.{HeldAt, State, place-of, live-of, Turned, death-put, current, pending, ops, Turns}
+use Rattle.stack_order.proofs.Model.{HeldAt, State, place-of, live-of, Turned, death-put, current, pending, ops, Turns}
 use Rattle.stack_order.proofs.Inv.{Marked, is-free, Touches, bits-of, Inv}
 use Rattle.stack_order.proofs.Turns.{TurnKept, turn-keeps, death-keeps, death-places}
 

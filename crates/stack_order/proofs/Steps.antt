@@ -16,10 +16,10 @@ use Rattle.unique_index_set_enums.specs.Kinds.{index}
 use Rattle.stack_order.specs.Stack.{acquire, release, Call, Stack, count, without, locks, taken, takenAnswer, stackAfter, stackAnswer, Allowed, replay, Answers}
 use Rattle.calls.specs.declared.Answer.the-variants as answer
 use Rattle.stack_order.specs.History.{oneMoreIf}
-use Rattle.stack_order.specs.Machine.{headOf, tagOf, borOf, pack, lockMark, out-of-indices, is-locked, borrowed-after, free, granting, held, Place, idle, acquire-look, borrowed-look, locked-look, acquire-read, acquire-exchange, acquire-write, release-look, release-write, release-exchange, Rec, at, Effect, goes-on, ends, acquire-judge, acquire-looks, acquire-exchanges, release-judge, release-looks, release-exchanges, step-at}
+use Rattle.stack_order.proofs.Machine.{headOf, tagOf, borOf, pack, lockMark, out-of-indices, is-locked, borrowed-after, free, granting, held, Place, idle, acquire-look, borrowed-look, locked-look, acquire-read, acquire-exchange, acquire-write, release-look, release-write, release-exchange, Rec, at, Effect, goes-on, ends, acquire-judge, acquire-looks, acquire-exchanges, release-judge, release-looks, release-exchanges, step-at}
 use Rattle.stack_order.proofs.Words.{head-pack, tag-pack, bor-pack, tag-same, tag-next, tag-bound}
 use Rattle.stack_order.proofs.Lists.{same-eq, same-other, count-cons, count-head, count-without, length-without, count-length, below, below-le, lt-of-below, top, second, Chain, chain-top, chain-second, chain-pop, chain-push, chain-write}
-use Rattle.stack_order.specs.Model.{Held, HeldAt, State, live-place, live-of, applied, look-after, pending, current, ops}
+use Rattle.stack_order.proofs.Model.{Held, HeldAt, State, live-place, live-of, applied, look-after, pending, current, ops}
 use Rattle.stack_order.proofs.Inv.{Touches, Seen, Lent, Good, bits-of, Core, Table, Inv, table-put, held-out, marks-put, not-free, is-free}
 
 -- what a step of r that has the effect f is to keep

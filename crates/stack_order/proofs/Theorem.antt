@@ -51,9 +51,9 @@ use Rattle.stack_order.specs.Stack.{Called, acquire, borrowedIndices, is
 use Rattle.stack_order.specs.History.{Event, startEvent, callAt, exchangesAt, ordered, startedBy, orderedBy, answeredBy, inCustody, Young, AllYoung}
 use Rattle.stack_order.specs.Runs.{Entry, ifTaken, openedEvent, stepEvents, stepsEvents, eventsOf, events, World, after, ran, setUpOf, begun}
 use Rattle.stack_order.specs.Demand.{walked, freeChain, opensAs, standsAt, countedIn, NoneSpoiled, isCalling, InOrder, Demand3, Holds}
-use Rattle.stack_order.specs.Machine as M
+use Rattle.stack_order.proofs.Machine as M
 use Rattle.stack_order.proofs.Lists.{count-cons, below-lt, below-ge, lt-of-below, Chain, count-head}
-use Rattle.stack_order.specs.Model.{place-of, pending, current, ops}
+use Rattle.stack_order.proofs.Model.{place-of, pending, current, ops}
 use Rattle.stack_order.proofs.Sound.{Fresh, Sound, sound-fresh, custody-is, nil-of-length, bits-now, bits-shut, marked-iff, runs-out-is}
 use Rattle.stack_order.proofs.Bridge.{placeIn}
 use Rattle.stack_order.proofs.Lawful.{clash, standsOpened, standing, inRec, stateOf, damagedAt, Good}

@@ -10,8 +10,8 @@ use Rattle.unique_index_set_enums.specs.declared.ReleaseMode.{ReleaseMode}
 use Rattle.unique_index_set_enums.specs.Kinds.{index}
 use Rattle.stack_order.specs.Stack.{Called, acquire, borrowedIndices, isLocked, release, Stack, replay, Answers}
 use Rattle.stack_order.specs.History.{oneMoreIf}
-use Rattle.stack_order.specs.Machine.{free, giving, Place, idle, acquire-look, borrowed-look, locked-look, release-look, Rec, nobody, at, step-at}
-use Rattle.stack_order.specs.Model.{Held, HeldAt, State, place-of, live-of, Turned, applied, start-put, release-put, death-put, look-after, pending, current, ops, Turns, steps, acquires, counts-out, asks, releases}
+use Rattle.stack_order.proofs.Machine.{free, giving, Place, idle, acquire-look, borrowed-look, locked-look, release-look, Rec, nobody, at, step-at}
+use Rattle.stack_order.proofs.Model.{Held, HeldAt, State, place-of, live-of, Turned, applied, start-put, release-put, death-put, look-after, pending, current, ops, Turns, steps, acquires, counts-out, asks, releases}
 use Rattle.stack_order.proofs.Inv.{Touches, Good, Inv, table-put, held-out, marks-put, not-free}
 use Rattle.stack_order.proofs.Steps.{stay, held-unset, held-gone, step-keeps}
 

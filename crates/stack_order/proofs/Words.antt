@@ -2,7 +2,7 @@
 use mathlib.Core.Path.{_≡_}
 use Prim.Native.Nat.{ℕ, suc, _+_, _-_, _%_, _≤_, _<_}
 use native.Mathlib.Omega.{arith}
-use Rattle.stack_order.specs.Machine.{headOf, tagOf, borOf, pack}
+use Rattle.stack_order.proofs.Machine.{headOf, tagOf, borOf, pack}
 
 pub head-pack : (h t b : ℕ) → h < 16777216 → t < 65536 → headOf (pack h t b) ≡ h
 unfolding headOf pack

@@ -4,6 +4,7 @@ use mathlib.Core.Path.{_≡_, refl, sym, ap, _∙_}
 use mathlib.Core.List.{List}
 use borrow.Author.Tests.{lt-ltb, le-ltb}
 use lib.ListN.{replicate}
+use Rattle.unique_index_set_enums.specs.Limits.{traceCapacityLimit}
 use Rattle.calls.specs.declared.SetKind.{SetKind}
 use Rattle.thread_records.specs.declared.OwnerList.{OwnerList}
 use Rattle.thread_records.specs.declared.Record.{Record}
@@ -27,7 +28,7 @@ use Rattle.trace_lines.specs.declared.Stage.the-variants.{Over}
 use Rattle.trace_lines.specs.declared.setups.SetRead.{SetRead}
 use Rattle.trace_lines.specs.declared.setups.SetRead.the-variants.{Known, Unknown}
 use Rattle.trace_lines.specs.declared.setups.Begun.{Begun}
-use Rattle.trace_lines.specs.Setups.{setRead, kindOf, setupLine, stageAfter, noCounts, Opened, readyOf, openedBy, over, openedOf, tooLarge, BegunAs}
+use Rattle.trace_lines.specs.Setups.{setRead, kindOf, setupLine, stageAfter, noCounts, Opened, readyOf, openedBy, over, openedOf, tooLargeLine, BegunAs}
 
 -- what a setup leaves, in the set, the buffers and the line
 abbrev pub Begins : Opened → Begun → List ℕ → List ℕ → List ℕ → List ℕ → List ℕ → Type 0
@@ -60,15 +61,15 @@ module _ (running : Running) (slots custody cells : List ℕ) where
     pub unknown : read ≡ Unknown → (r .stage ≡ Over) × (r .running ≡ running) → LaidAs out 0 (lineText Bad) out′ (r .written) → Begins (openedOf e (sceneOf running slots custody cells)) r out out′ slots custody cells
     unknown u n h = rw (sym is ∙ u) (none Bad r n, h)
 
-    pub too-large : (set : AnySet) (l : Line) → read ≡ Known set → 1024 < e .capacity → l ≡ tooLarge → (r .stage ≡ Over) × (r .running ≡ running) → LaidAs out 0 (lineText l) out′ (r .written)
+    pub too-large : (set : AnySet) (l : Line) → read ≡ Known set → traceCapacityLimit < e .capacity → l ≡ tooLargeLine → (r .stage ≡ Over) × (r .running ≡ running) → LaidAs out 0 (lineText l) out′ (r .written)
         → Begins (openedOf e (sceneOf running slots custody cells)) r out out′ slots custody cells
-    too-large set l u big el n h = rw (sym is ∙ u, lt-ltb 1024 (e .capacity) big) (none tooLarge r n, laid-as _ _ _ _ _ _ (ap lineText el) h)
+    too-large set l u big el n h = rw (sym is ∙ u, lt-ltb traceCapacityLimit (e .capacity) big) (none tooLargeLine r n, laid-as _ _ _ _ _ _ (ap lineText el) h)
 
     same-ready : (set : AnySet) → readyOf set e (anyShared set slots custody cells) ≡ readyOf set e (anyShared (running .set) slots custody cells)
     unfolding readyOf
     same-ready set = refl
 
-    pub known : (set : AnySet) (slots′ custody′ cells′ : List ℕ) → read ≡ Known set → e .capacity ≤ 1024
+    pub known : (set : AnySet) (slots′ custody′ cells′ : List ℕ) → read ≡ Known set → e .capacity ≤ traceCapacityLimit
         → Begins (openedBy e (kindOf set) (readyOf set e (anyShared set slots custody cells))) r out out′ slots′ custody′ cells′
         → Begins (openedOf e (sceneOf running slots custody cells)) r out out′ slots′ custody′ cells′
-    known set slots′ custody′ cells′ u small h = rw (sym is ∙ u, le-ltb 1024 (e .capacity) small) (rw (same-ready set) at h)
+    known set slots′ custody′ cells′ u small h = rw (sym is ∙ u, le-ltb traceCapacityLimit (e .capacity) small) (rw (same-ready set) at h)

@@ -33,7 +33,7 @@ use Rattle.trace_lines.specs.declared.openings.Opening.the-variants as o
 use Rattle.trace_lines.specs.declared.closings.Closing.{Closing}
 use Rattle.trace_lines.specs.declared.closings.Closing.the-variants as closing
 use Rattle.trace_lines.specs.Setups.{openedOf}
-use Rattle.trace_lines.specs.Pieces.{Pieced, piece, closingOf, closingText, closedBy, runningOf, openingOf, openedAt, freshOf, pieceOf}
+use Rattle.trace_lines.specs.Pieces.{Pieced, piece, closingOf, closingText, closedBy, runningOf, openingOf, openedPiece, freshOf, pieceOf}
 use Rattle.trace_lines.specs.Traces.{Runs, turns, ends, Traces, begins, lacks, runs, rests}
 use Rattle.trace_lines.specs.Joined.{Joined, over, more, last}
 
@@ -289,13 +289,13 @@ module _ (room : ℕ) (s : Scene) (b m : list.List ℕ) (h : Bytes b) (final : B
       let whole : isWhole (entryOf b) ≡ true = ap isWhole is in
       begins {s = s} {bytes = b ++ m} {text = text} {e = e} (ap (λ (z : Entry). openingOf z true) (whole-stays b h whole m ∙ is)) (rw (rest-grows b h whole m) t)
 
-  by-opening : (o : Opening) → openingOf (entryOf b) final ≡ o → (isLacking o ≡ true → openingOf (entryOf (b ++ m)) true ≡ opening.Bad) → Follows (openedAt o s (sizeOf b)) stage.Fresh s b m
+  by-opening : (o : Opening) → openingOf (entryOf b) final ≡ o → (isLacking o ≡ true → openingOf (entryOf (b ++ m)) true ≡ opening.Bad) → Follows (openedPiece o s (sizeOf b)) stage.Fresh s b m
   by-opening (opening.Setup e) is f text t = begins-longer e (setup-is (entryOf b) final e is) text t
   by-opening opening.Waits is f text t = t
   by-opening opening.Bad is f text t = subst (Traces stage.Fresh s (b ++ m)) (sym (ap (λ (z : Text). lineText line.Bad ++ z) (over-none t refl) ∙ append-nil (lineText line.Bad))) (lacks {s = s} {bytes = b ++ m} (f refl))
 
   by-place : (l : Bool) → (isLacking (openingOf (entryOf b) final) ≡ true → openingOf (entryOf (b ++ m)) true ≡ opening.Bad)
-      → Follows (cond l (piece stage.Fresh s 0 [] wants.Again) (openedAt (openingOf (entryOf b) final) s (sizeOf b))) stage.Fresh s b m
+      → Follows (cond l (piece stage.Fresh s 0 [] wants.Again) (openedPiece (openingOf (entryOf b) final) s (sizeOf b))) stage.Fresh s b m
   by-place true f text t = t
   by-place false f text t = by-opening (openingOf (entryOf b) final) refl f text t
 

@@ -9,6 +9,7 @@ use mathlib.Core.List.{_∷_}
 use borrow.Author.Tests.{ltb-false}
 use lib.Dec.{ltb, eqb}
 use lib.ListN.{length, getD, take, replicate, length-replicate}
+use Rattle.unique_index_set_enums.specs.Limits.{traceCapacityLimit}
 use Rattle.calls.specs.declared.Verdict.{Verdict}
 use Rattle.calls.specs.declared.Verdict.the-variants.{Accepted, Refused}
 use Rattle.calls.specs.Order.{testsAtSetup, verdictOf}
@@ -33,7 +34,7 @@ use Rattle.trace_turns.specs.Scenes.{Scene}
 use Rattle.trace_turns.proofs.Docks.{Seated, dockIn}
 use Rattle.trace_lines.specs.declared.setups.SetRead.{SetRead}
 use Rattle.trace_lines.specs.declared.setups.SetRead.the-variants as read
-use Rattle.trace_lines.specs.Setups.{setRead, kindOf, stageAfter, readyOf, openedBy, over, tooLarge, openedWith, openedOf}
+use Rattle.trace_lines.specs.Setups.{setRead, kindOf, stageAfter, readyOf, openedBy, over, tooLargeLine, openedWith, openedOf}
 use Rattle.trace_lines.proofs.Joins.{isRunning}
 
 -- what is refused with 10 does not run
@@ -60,14 +61,14 @@ ready-few (Robust r) e s h =
 pub opened-seated : (e : SetupEntry) (s : Scene) → isRunning (openedOf e s .stage) ≡ true → Seated (openedOf e s .scene)
 opened-seated e s = by-read (setRead (e .set))
   where
-    by-room : (set : AnySet) (b : Bool) → isRunning (cond b (over s tooLarge) (openedBy e (kindOf set) (readyOf set e (s .shared))) .stage) ≡ true
-        → Seated (cond b (over s tooLarge) (openedBy e (kindOf set) (readyOf set e (s .shared))) .scene)
+    by-room : (set : AnySet) (b : Bool) → isRunning (cond b (over s tooLargeLine) (openedBy e (kindOf set) (readyOf set e (s .shared))) .stage) ≡ true
+        → Seated (cond b (over s tooLargeLine) (openedBy e (kindOf set) (readyOf set e (s .shared))) .scene)
     by-room set true h = no h
     by-room set false h = record { lent = ready-few set e (s .shared) h; held = length-replicate 16 (readyOf set e (s .shared) .settled .thread) }
 
     by-read : (r : SetRead) → isRunning (openedWith r e s .stage) ≡ true → Seated (openedWith r e s .scene)
     by-read read.Unknown h = no h
-    by-read (read.Known set) h = by-room set (ltb 1024 (e .capacity)) h
+    by-read (read.Known set) h = by-room set (ltb traceCapacityLimit (e .capacity)) h
 
 -- ---- the dock's own setup
 first-idle : (n : ℕ) (t : Record) → getD (replicate n t) 0 t ≡ t

@@ -118,13 +118,13 @@ wantsIn stage.Over = wants.Nothing
 abbrev pub openedAs : ℕ → Opened → Pieced
 openedAs used o = piece (o .stage) (o .scene) used (o .text) (wantsIn (o .stage))
 
-abbrev pub openedAt : Opening → Scene → ℕ → Pieced
-openedAt (opening.Setup e) s used = openedAs used (openedOf e s)
-openedAt opening.Waits s used = piece stage.Fresh s 0 [] wants.Bytes
-openedAt opening.Bad s used = piece stage.Over s 0 (lineText line.Bad) wants.Nothing
+abbrev pub openedPiece : Opening → Scene → ℕ → Pieced
+openedPiece (opening.Setup e) s used = openedAs used (openedOf e s)
+openedPiece opening.Waits s used = piece stage.Fresh s 0 [] wants.Bytes
+openedPiece opening.Bad s used = piece stage.Over s 0 (lineText line.Bad) wants.Nothing
 
 abbrev pub freshOf : ℕ → Scene → list.List ℕ → Bool → Pieced
-freshOf room s bytes last = cond (lacksRoom room 0) (piece stage.Fresh s 0 [] wants.Again) (openedAt (openingOf (entryOf bytes) last) s (sizeOf bytes))
+freshOf room s bytes last = cond (lacksRoom room 0) (piece stage.Fresh s 0 [] wants.Again) (openedPiece (openingOf (entryOf bytes) last) s (sizeOf bytes))
 
 -- ---- one call
 unfoldable pub pieceOf : Stage → ℕ → Scene → list.List ℕ → Bool → Pieced

@@ -7,6 +7,7 @@ use lib.Dec.{eqb, ltb}
 use lib.ListN.{replicate}
 use Rattle.unique_index_set_enums.specs.declared.UniqueIndexCreationError.the-variants.{ProvidedCapacityGreaterThanMaxCapacity}
 use Rattle.unique_index_set_enums.specs.Kinds.{generation}
+use Rattle.unique_index_set_enums.specs.Limits.{traceCapacityLimit}
 use Rattle.calls.specs.declared.SetKind.{SetKind}
 use Rattle.calls.specs.declared.SetKind.the-variants as kind
 use Rattle.calls.specs.declared.Progress.{Progress}
@@ -72,13 +73,13 @@ openedBy e k w = record {
 abbrev pub over : Scene → Line → Opened
 over s l = record { stage = stage.Over; scene = s; text = lineText l }
 
-abbrev pub tooLarge : Line
-tooLarge = line.Refused (refusal.Capacity ProvidedCapacityGreaterThanMaxCapacity)
+abbrev pub tooLargeLine : Line
+tooLargeLine = line.Refused (refusal.Capacity ProvidedCapacityGreaterThanMaxCapacity)
 
 -- above 1,024 the capacity is refused as too large, before all else that a setup tests
 abbrev pub openedWith : SetRead → SetupEntry → Scene → Opened
 openedWith read.Unknown e s = over s line.Bad
-openedWith (read.Known set) e s = cond (ltb 1024 (e .capacity)) (over s tooLarge) (openedBy e (kindOf set) (readyOf set e (s .shared)))
+openedWith (read.Known set) e s = cond (ltb traceCapacityLimit (e .capacity)) (over s tooLargeLine) (openedBy e (kindOf set) (readyOf set e (s .shared)))
 
 abbrev pub openedOf : SetupEntry → Scene → Opened
 openedOf e s = openedWith (setRead (e .set)) e s

@@ -29,7 +29,7 @@ ghost use Rattle.trace_text.specs.Laid.{LaidAs};
 ghost use Rattle.trace_text.specs.Lines.{lineText};
 ghost use Rattle.trace_lines.specs.declared.Stage.the-variants.{Over};
 ghost use Rattle.trace_turns.specs.Scenes.{sceneOf};
-ghost use Rattle.trace_lines.specs.Setups.{setRead, kindOf, setupLine, stageAfter, noCounts, readyOf, openedBy, openedOf, tooLarge, BegunAs};
+ghost use Rattle.trace_lines.specs.Setups.{setRead, kindOf, setupLine, stageAfter, noCounts, readyOf, openedBy, openedOf, tooLargeLine, BegunAs};
 
 // A lent number read as a set, empty yet.
 pub(crate) enum SetRead {
@@ -112,7 +112,7 @@ pub(crate) fn no_counts() -> Counts
 }
 
 fn too_large() -> Line
-    ensures { λ r. ⌜ r ≡ tooLarge ⌝ }
+    ensures { λ r. ⌜ r ≡ tooLargeLine ⌝ }
 {
     Line::Refused(Refusal::Capacity(
         UniqueIndexCreationError::ProvidedCapacityGreaterThanMaxCapacity,

@@ -16,7 +16,7 @@ ghost use Prim.Native.Nat.{_≤_, _+_};
 ghost use mathlib.Core.Path.{_≡_};
 ghost use lib.ListN.{length};
 ghost use Rattle.trace_text.specs.Laid.{LaidAs};
-ghost use Rattle.trace_text.specs.Lines.{kindWord, oneText, setText, entryText, endText, lineText, lineIn, lineEnd};
+ghost use Rattle.trace_text.specs.Lines.{kindWord, setText, entryText, endText, lineText, lineIn, lineEnd};
 
 pub struct SetLine {
     pub kind: SetKind,

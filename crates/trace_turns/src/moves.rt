@@ -21,9 +21,8 @@ ghost use Prim.Native.Nat.{_≤_, _<_, _+_};
 ghost use mathlib.Core.Path.{_≡_};
 ghost use lib.ListN.{length};
 ghost use Rattle.any_dock.specs.Any.{anyShared};
-ghost use Rattle.schedule.specs.Format.{entryOf};
 ghost use Rattle.trace_text.specs.Laid.{LaidAs};
-ghost use Rattle.trace_turns.specs.Scenes.{isTurn, nobody, turnOf, broughtBy, isAcquired, acquiredIn, countedWith, turnAt, placeAt, movedOf, toldOf, movedLeft};
+ghost use Rattle.trace_turns.specs.Scenes.{isTurn, nobody, turnOf, broughtBy, isAcquired, acquiredIn, countedWith, placeAt, movedOf, toldOf, movedLeft};
 
 // Entries after the setup, acquires that answered with an index, and steps taken.
 pub struct Counts {

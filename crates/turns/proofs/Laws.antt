@@ -1,5 +1,5 @@
--- A turn on a dock of either set: refused, it changes nothing and takes no step. Any two results that the contracts of the turns allow
--- are the same. Assumes nothing.
+-- A turn on a dock of either set: refused, it changes nothing. Any two results that the contracts of the turns allow are the same.
+-- Assumes nothing.
 use Prim.Native.Nat.{ℕ}
 use mathlib.Core.Path.{_≡_, refl, ap}
 use mathlib.Core.List as list

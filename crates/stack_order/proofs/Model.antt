@@ -10,7 +10,7 @@ use Rattle.unique_index_set_enums.specs.Kinds.{index, recordNumber}
 use Rattle.calls.specs.declared.Answer.the-variants as answer
 use Rattle.stack_order.specs.Stack.{Called, acquire, borrowedIndices, isLocked, release, Call}
 use Rattle.stack_order.specs.History.{Event}
-use Rattle.stack_order.specs.Machine.{free, giving, Place, idle, acquire-look, borrowed-look, locked-look, acquire-read, acquire-exchange, acquire-write, release-look, release-write, release-exchange, Rec, nobody, at, Shared, Effect, step-at}
+use Rattle.stack_order.proofs.Machine.{free, giving, Place, idle, acquire-look, borrowed-look, locked-look, acquire-read, acquire-exchange, acquire-write, release-look, release-write, release-exchange, Rec, nobody, at, Shared, Effect, step-at}
 
 pub record State : Type 0 where
   pub shared : Shared
