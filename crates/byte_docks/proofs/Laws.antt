@@ -130,7 +130,7 @@ pub robust-turns : (who : RecordNumber) (o : Operation) (brought : OwnerList) (s
 robust-turns who o brought s bytes h fits =
     turns-table (λ n z t. robustTurnOf n who o brought z t) who s bytes h (turnlaws.robust-harmless (recordsIn bytes) who o brought s (named who bytes)) fits
 
--- any two results are the same: of plain_call and plain_setup, of robust_call and robust_setup, of death and list
+-- any two results are the same: of plain_byte_turn and plain_setup, of robust_byte_turn and robust_setup, of death and list
 abbrev plainBack : Called plain.Shared → PlainOutcome × List ℕ × List ℕ × List ℕ
 plainBack c = (record { set = c .shared .set; report = c .report; steps = c .steps }, c .records, c .shared .slots, c .shared .custody)
 

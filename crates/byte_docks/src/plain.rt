@@ -17,7 +17,7 @@ ghost use mathlib.Core.Path.{_≡_};
 ghost use Rattle.unique_index_set.specs.Steps.{shared};
 ghost use Rattle.byte_docks.specs.Plain.{plainCame, plainCalled, plainFits, plainReadied};
 
-pub fn plain_call(
+pub fn plain_byte_turn(
     records: &mut [u8],
     slots: &mut [u32],
     custody: &mut [u32],

@@ -17,7 +17,7 @@ ghost use mathlib.Core.Path.{_≡_};
 ghost use Rattle.robust_unique_index_set.specs.Steps.{shared};
 ghost use Rattle.byte_docks.specs.Robust.{robustCame, robustCalled, robustFits, robustReadied};
 
-pub fn robust_call(
+pub fn robust_byte_turn(
     records: &mut [u8],
     cells: &mut [u64],
     set: RobustUniqueIndexSet,

@@ -7,7 +7,7 @@ ghost use lib.ListN.{length};
 ghost use Rattle.call_lines.specs.Numbers.{flag, ownerAt, recordNumbers, agreeBelow, sameEntries, leastOf};
 
 // A line: a letter, and up to six numbers in decimal or, behind an x, in hex.
-pub struct Line {
+pub struct CallLine {
     pub command: u8,
     pub numbers: [u64; 6],
     pub next: usize,
@@ -84,7 +84,7 @@ fn number(input: &[u8], from: usize) -> Read {
     digits(input, at, 10)
 }
 
-fn line_at(input: &[u8], at: usize) -> Line
+fn line_at(input: &[u8], at: usize) -> CallLine
     requires { ⌜ at < length (now input) ⌝ }
     ensures { λ r. ⌜ at < r .next ⌝ }
 {
@@ -94,7 +94,7 @@ fn line_at(input: &[u8], at: usize) -> Line
     let fourth = number(input, third.next);
     let fifth = number(input, fourth.next);
     let sixth = number(input, fifth.next);
-    Line {
+    CallLine {
         command: input[at],
         numbers: [
             first.value,
@@ -109,13 +109,13 @@ fn line_at(input: &[u8], at: usize) -> Line
 }
 
 // The line that begins at a place, and where the next one begins. Behind the input there is an empty line for ever.
-pub fn read_line(input: &[u8], at: usize) -> Line
+pub fn read_line(input: &[u8], at: usize) -> CallLine
     ensures { λ r. ⌜ (at < length (now (input .entry)) → at < r .next) ⌝ }
 {
     if at < input.len() {
         return line_at(input, at);
     }
-    Line {
+    CallLine {
         command: b'\n',
         numbers: [0u64; 6],
         next: at,

@@ -3,7 +3,7 @@
 mod lending;
 mod rounds;
 
-use call_lines::Line;
+use call_lines::CallLine;
 use call_lines::read_line;
 use dock::Task;
 use dock::plain_work;
@@ -123,7 +123,7 @@ fn tell(tally: Tally) {
     io::write_all(STDOUT_FILENO, b"\n");
 }
 
-fn turns_of(line: Line) -> Tally {
+fn turns_of(line: CallLine) -> Tally {
     let mut slots = [0u32; 9];
     let mut custody = [0u32; 8];
     if line.command == b'l' {

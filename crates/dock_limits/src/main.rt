@@ -5,7 +5,7 @@ mod lending;
 mod telling;
 mod worlds;
 
-use call_lines::Line;
+use call_lines::CallLine;
 use call_lines::byte;
 use call_lines::least;
 use call_lines::narrow;
@@ -31,7 +31,7 @@ use worlds::fresh_world;
 use worlds::turned_to;
 use worlds::with_records;
 
-fn brought_by(line: Line) -> OwnerList {
+fn brought_by(line: CallLine) -> OwnerList {
     OwnerList {
         count: byte(line.numbers[1]),
         owners: [
@@ -47,7 +47,7 @@ fn brought_by(line: Line) -> OwnerList {
     }
 }
 
-fn request_of(line: Line) -> Request {
+fn request_of(line: CallLine) -> Request {
     Request {
         call: byte(line.numbers[1]),
         index_or_room: narrow(line.numbers[2]),
@@ -56,7 +56,7 @@ fn request_of(line: Line) -> Request {
     }
 }
 
-fn operation_of(line: Line) -> Operation {
+fn operation_of(line: CallLine) -> Operation {
     let command = line.command;
     match command {
         b'b' => Operation::Start(request_of(line)),
@@ -67,7 +67,7 @@ fn operation_of(line: Line) -> Operation {
     }
 }
 
-fn work_of(line: Line) -> Work {
+fn work_of(line: CallLine) -> Work {
     if line.command == b's' {
         return Work::Setup(narrow(line.numbers[0]));
     }
@@ -77,7 +77,7 @@ fn work_of(line: Line) -> Work {
     })
 }
 
-fn call_line(line: Line, world: World) -> World {
+fn call_line(line: CallLine, world: World) -> World {
     let task = Task {
         work: work_of(line),
         brought: brought_by(line),
@@ -98,7 +98,7 @@ fn lent(world: World, count: u64) -> World {
     with_records(world, least(count as usize, 17))
 }
 
-fn looked(line: Line, world: World) -> World {
+fn looked(line: CallLine, world: World) -> World {
     if line.command == b'p' {
         tell_world(world);
     } else {
@@ -108,7 +108,7 @@ fn looked(line: Line, world: World) -> World {
     world
 }
 
-fn told(line: Line, world: World) -> World {
+fn told(line: CallLine, world: World) -> World {
     let command = line.command;
     match command {
         b'P' => turned_to(world, true),
@@ -120,7 +120,7 @@ fn told(line: Line, world: World) -> World {
     }
 }
 
-fn turn(input: &[u8], line: Line, at: usize, world: World) -> World {
+fn turn(input: &[u8], line: CallLine, at: usize, world: World) -> World {
     if line.command == b'#' {
         tell_part(input, at, line.next);
         return world;

@@ -3,7 +3,7 @@ use crate::brought::brought;
 use crate::outcomes::Outcome;
 use crate::outcomes::outcome_of;
 use byte_docks::list;
-use byte_docks::plain_call;
+use byte_docks::plain_byte_turn;
 use byte_docks::plain_setup;
 use calls::Request;
 use calls::SetKind;
@@ -68,7 +68,7 @@ pub extern "C" fn husk_plain_start(
         owner: OwnerId(owner),
         mode: mode,
     });
-    let came = plain_call(
+    let came = plain_byte_turn(
         records,
         slots,
         custody,
@@ -98,7 +98,7 @@ pub extern "C" fn husk_plain_step(
         capacity: capacity,
         head: *head,
     };
-    let came = plain_call(
+    let came = plain_byte_turn(
         records,
         slots,
         custody,
@@ -131,7 +131,7 @@ pub extern "C" fn husk_plain_drain(
         capacity: capacity,
         head: *head,
     };
-    let came = plain_call(
+    let came = plain_byte_turn(
         records,
         slots,
         custody,

@@ -3,7 +3,7 @@ use crate::brought::brought;
 use crate::outcomes::Outcome;
 use crate::outcomes::outcome_of;
 use byte_docks::list;
-use byte_docks::robust_call;
+use byte_docks::robust_byte_turn;
 use byte_docks::robust_setup;
 use calls::Request;
 use calls::SetKind;
@@ -68,7 +68,7 @@ pub extern "C" fn husk_robust_start(
         owner: OwnerId(owner),
         mode: mode,
     });
-    let came = robust_call(records, cells, set, RecordNumber(who), start, empty_list());
+    let came = robust_byte_turn(records, cells, set, RecordNumber(who), start, empty_list());
     let report = came.report;
     outcome_of(report, came.steps)
 }
@@ -89,7 +89,7 @@ pub extern "C" fn husk_robust_step(
         capacity: capacity,
         generation: Generation(*generation),
     };
-    let came = robust_call(
+    let came = robust_byte_turn(
         records,
         cells,
         set,
@@ -121,7 +121,7 @@ pub extern "C" fn husk_robust_drain(
         capacity: capacity,
         generation: Generation(*generation),
     };
-    let came = robust_call(
+    let came = robust_byte_turn(
         records,
         cells,
         set,

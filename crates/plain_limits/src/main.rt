@@ -2,7 +2,7 @@
 mod telling;
 mod worlds;
 
-use call_lines::Line;
+use call_lines::CallLine;
 use call_lines::read_line;
 use call_reports::tell_part;
 use worlds::World;
@@ -10,7 +10,7 @@ use worlds::apply;
 use worlds::fresh_world;
 
 // The line at a place, done: the world after it.
-fn turn(input: &[u8], line: Line, at: usize, world: World) -> World {
+fn turn(input: &[u8], line: CallLine, at: usize, world: World) -> World {
     if line.command == b'#' {
         tell_part(input, at, line.next);
         return world;

@@ -1,6 +1,6 @@
 // The set, the record and the buffers that the calls are made on, and what each line does.
 use crate::telling::tell_world;
-use call_lines::Line;
+use call_lines::CallLine;
 use call_lines::byte;
 use call_lines::least;
 use call_lines::narrow;
@@ -220,7 +220,7 @@ fn death_line(world: World) -> World {
 }
 
 // The calls: s capacity; b call index mode (the owner is any); t a step; d budget; k a death.
-fn call_line(line: Line, world: World) -> World {
+fn call_line(line: CallLine, world: World) -> World {
     let first = line.numbers[0];
     let second = line.numbers[1];
     let third = line.numbers[2];
@@ -336,7 +336,7 @@ fn with_count(thread: Record, count: u8) -> Record {
 
 // What is lent is set: L slots custody; Q records who; W capacity word; V slot value; C custody entry; R a record; N a
 // list's count.
-fn lent_line(line: Line, world: World) -> World {
+fn lent_line(line: CallLine, world: World) -> World {
     let numbers = line.numbers;
     let thread = world.thread;
     let list = thread.list;
@@ -374,13 +374,13 @@ fn is_lent(command: u8) -> bool {
     }
 }
 
-fn told(line: Line, world: World) -> World {
+fn told(line: CallLine, world: World) -> World {
     let after = call_line(line, world);
     text(b"\n");
     after
 }
 
-pub(crate) fn apply(line: Line, world: World) -> World {
+pub(crate) fn apply(line: CallLine, world: World) -> World {
     if is_lent(line.command) {
         return lent_line(line, world);
     }

@@ -49,8 +49,8 @@ use Rattle.robust_calls.specs.declared.resumes.Next.{Next}
 use Rattle.robust_calls.specs.declared.resumes.Next.the-variants.{Going, Answered}
 use Rattle.robust_calls.specs.declared.asks.Asked.{Asked}
 use Rattle.robust_calls.specs.declared.asks.Asked.the-variants as asked
-use Rattle.robust_calls.specs.declared.asks.Entry.{Entry}
-use Rattle.robust_calls.specs.declared.asks.Entry.the-variants as entry
+use Rattle.robust_calls.specs.declared.asks.Beginning.{Beginning}
+use Rattle.robust_calls.specs.declared.asks.Beginning.the-variants as beginning
 use Rattle.robust_calls.specs.Asks.{askedReleaseIn, askedRelease, askedFind, askedRecoverIn, askedRecover, askedCall, askedFor, askedOf, isOwnerEmpty, isOutOfRange, listDamagedFor, listDamaged, firstPlace}
 use Rattle.robust_calls.specs.Resumes.{acquireNext, releaseNext, borrowedNext, findNext, recoverNext, resumedAt}
 
@@ -110,9 +110,9 @@ Good capacity list (asked.Recover m) = goodList list ≡ true
 Good capacity list asked.NotKnown = Unit {0}
 
 -- the entry is at a sound place
-abbrev pub EntrySound : ℕ → OwnerList → Entry → Type 0
-EntrySound capacity list (entry.At p) = sound capacity p list ≡ true
-EntrySound capacity list entry.Nowhere = Unit {0}
+abbrev pub EntrySound : ℕ → OwnerList → Beginning → Type 0
+EntrySound capacity list (beginning.At p) = sound capacity p list ≡ true
+EntrySound capacity list beginning.Nowhere = Unit {0}
 
 pub first-sound : (capacity : ℕ) (list : OwnerList) (a : Asked) → 0 < capacity → Good capacity list a → EntrySound capacity list (firstPlace a)
 unfolding findSound listSound

@@ -23,8 +23,8 @@ use Rattle.robust_recover.specs.declared.RecoverPlace.the-variants as recover
 use Rattle.robust_places.specs.declared.Place.the-variants as place
 use Rattle.robust_calls.specs.declared.asks.Asked.{Asked}
 use Rattle.robust_calls.specs.declared.asks.Asked.the-variants.{Acquire, Release, BorrowedIndices, IsLocked, Find, Recover, NotKnown}
-use Rattle.robust_calls.specs.declared.asks.Entry.{Entry}
-use Rattle.robust_calls.specs.declared.asks.Entry.the-variants.{At, Nowhere}
+use Rattle.robust_calls.specs.declared.asks.Beginning.{Beginning}
+use Rattle.robust_calls.specs.declared.asks.Beginning.the-variants.{At, Nowhere}
 
 abbrev pub askedReleaseIn : ModeRead → Request → Asked
 askedReleaseIn (mode.Known m) r = Release (index (r .«index_or_room»)) (r .owner) m
@@ -102,7 +102,7 @@ listDamaged (callread.Known c) list = listDamagedFor c list
 listDamaged callread.Unknown list = false
 
 -- each call's first place
-abbrev pub firstPlace : Asked → Entry
+abbrev pub firstPlace : Asked → Beginning
 firstPlace (Acquire o) = At (place.Acquire (acquire.Look o))
 firstPlace (Release i o m) = At (place.Release (release.Cell i o m))
 firstPlace BorrowedIndices = At (place.Borrowed count.Look)

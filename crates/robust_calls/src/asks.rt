@@ -146,30 +146,30 @@ pub fn is_list_damaged(call: u8, list: OwnerList) -> bool
 }
 
 // Where what is asked enters.
-pub enum Entry {
+pub enum Beginning {
     At(Place),
     Nowhere,
 }
 
-pub fn first_place(asked: Asked) -> Entry
+pub fn first_place(asked: Asked) -> Beginning
     ensures { λ r. ⌜ r ≡ firstPlace asked ⌝ }
 {
     match asked {
-        Asked::Acquire(owner) => Entry::At(Place::Acquire(AcquirePlace::Look(owner))),
-        Asked::Release(index, owner, mode) => Entry::At(Place::Release(ReleasePlace::Cell(
+        Asked::Acquire(owner) => Beginning::At(Place::Acquire(AcquirePlace::Look(owner))),
+        Asked::Release(index, owner, mode) => Beginning::At(Place::Release(ReleasePlace::Cell(
             index,
             owner,
             mode,
         ))),
-        Asked::BorrowedIndices => Entry::At(Place::Borrowed(CountPlace::Look)),
-        Asked::IsLocked => Entry::At(Place::LockedLook),
-        Asked::Find(owner, room) => Entry::At(Place::Find(FindPlace {
+        Asked::BorrowedIndices => Beginning::At(Place::Borrowed(CountPlace::Look)),
+        Asked::IsLocked => Beginning::At(Place::LockedLook),
+        Asked::Find(owner, room) => Beginning::At(Place::Find(FindPlace {
             owner: owner,
             cell: Index(0),
             reported: 0,
             room: room,
         })),
-        Asked::Recover(mode) => Entry::At(Place::Recover(RecoverPlace::Look(mode))),
-        Asked::NotKnown => Entry::Nowhere,
+        Asked::Recover(mode) => Beginning::At(Place::Recover(RecoverPlace::Look(mode))),
+        Asked::NotKnown => Beginning::Nowhere,
     }
 }

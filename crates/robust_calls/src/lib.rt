@@ -3,7 +3,7 @@ mod asks;
 mod resumes;
 
 pub use asks::Asked;
-pub use asks::Entry;
+pub use asks::Beginning;
 pub use asks::asked_of;
 pub use asks::first_place;
 pub use asks::is_list_damaged;

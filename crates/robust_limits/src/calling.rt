@@ -2,7 +2,7 @@
 use crate::worlds::World;
 use crate::worlds::copy_cells;
 use crate::worlds::is_same_world;
-use call_lines::Line;
+use call_lines::CallLine;
 use call_lines::byte;
 use call_lines::least;
 use call_lines::narrow;
@@ -145,7 +145,12 @@ pub(crate) fn is_call(command: u8) -> bool {
     }
 }
 
-pub(crate) fn call_line(line: Line, world: World, cells: &mut [u64], before: &mut [u64]) -> World {
+pub(crate) fn call_line(
+    line: CallLine,
+    world: World,
+    cells: &mut [u64],
+    before: &mut [u64],
+) -> World {
     let numbers = line.numbers;
     let first = numbers[0];
     copy_cells(cells, before);

@@ -1,7 +1,7 @@
 // What is lent is set: L cells; Q records who; W capacity generation; V cell value; R and T a record's call; N and O the
 // list that waits; A the owners that a list brings.
 use crate::worlds::World;
-use call_lines::Line;
+use call_lines::CallLine;
 use call_lines::byte;
 use call_lines::least;
 use call_lines::narrow;
@@ -122,7 +122,7 @@ fn with_owner(list: OwnerList, at: u64, value: u64) -> OwnerList {
     }
 }
 
-fn record_line(line: Line, world: World) -> World {
+fn record_line(line: CallLine, world: World) -> World {
     let numbers = line.numbers;
     let thread = world.thread;
     let call = thread.call;
@@ -145,7 +145,7 @@ fn record_line(line: Line, world: World) -> World {
     world
 }
 
-pub(crate) fn lent_line(line: Line, world: World, cells: &mut [u64]) -> World {
+pub(crate) fn lent_line(line: CallLine, world: World, cells: &mut [u64]) -> World {
     let numbers = line.numbers;
     let brought = world.brought;
     if line.command == b'L' {

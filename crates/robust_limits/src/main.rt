@@ -4,7 +4,7 @@ mod lending;
 mod telling;
 mod worlds;
 
-use call_lines::Line;
+use call_lines::CallLine;
 use call_lines::read_line;
 use call_reports::tell_part;
 use call_reports::text;
@@ -16,7 +16,7 @@ use telling::tell_world;
 use worlds::World;
 use worlds::fresh_world;
 
-fn told(line: Line, world: World, cells: &mut [u64], before: &mut [u64]) -> World {
+fn told(line: CallLine, world: World, cells: &mut [u64], before: &mut [u64]) -> World {
     if is_call(line.command) {
         let after = call_line(line, world, cells, before);
         text(b"\n");

@@ -46,8 +46,8 @@ use Rattle.robust_places.specs.declared.Opened.the-variants.{At, Damaged}
 use Rattle.robust_calls.specs.declared.resumes.Next.{Next}
 use Rattle.robust_calls.specs.declared.resumes.Next.the-variants.{Going, Answered}
 use Rattle.robust_calls.specs.declared.asks.Asked.{Asked}
-use Rattle.robust_calls.specs.declared.asks.Entry.{Entry}
-use Rattle.robust_calls.specs.declared.asks.Entry.the-variants as entry
+use Rattle.robust_calls.specs.declared.asks.Beginning.{Beginning}
+use Rattle.robust_calls.specs.declared.asks.Beginning.the-variants as beginning
 use Rattle.robust_calls.specs.Asks.{askedOf, listDamaged, firstPlace}
 use Rattle.robust_calls.specs.Resumes.{acquireNext, releaseNext, borrowedNext, findNext, recoverNext, resumedAt}
 use Rattle.robust_unique_index_set.specs.Steps.{Shared, leaves, progressAfter, sawAt, advanced, nextAt, tooShort, isDamaged, turnVerdict, openedIn, stepJudged, steppedFrom, stepOf}
@@ -78,9 +78,9 @@ start-failed records who capacity cells a t damaged OwnerIsEmpty e = refl
 start-failed records who capacity cells a t damaged IndexOutOfRange e = refl
 start-failed records who capacity cells a t damaged IndexNotHeld e = e
 
-entered-among : (n : Entry) (s : Shared) (t : Record) → RefusedAmong startNumbers (leaves (enteredAt n (s .set) t) (s .cells))
-entered-among (entry.At p) s t = taken-among startNumbers (leaves (enteredAt (entry.At p) (s .set) t) (s .cells)) refl
-entered-among entry.Nowhere s t = unchanged-among startNumbers s t NotKnown refl
+entered-among : (n : Beginning) (s : Shared) (t : Record) → RefusedAmong startNumbers (leaves (enteredAt n (s .set) t) (s .cells))
+entered-among (beginning.At p) s t = taken-among startNumbers (leaves (enteredAt (beginning.At p) (s .set) t) (s .cells)) refl
+entered-among beginning.Nowhere s t = unchanged-among startNumbers s t NotKnown refl
 
 pub start-numbers : (records : ℕ) (who : RecordNumber) (request : Request) (s : Shared) (t : Record) → RefusedAmong startNumbers (startOf records who request s t)
 unfolding startOf startVerdict

@@ -20,8 +20,8 @@ use Rattle.robust_places.specs.declared.Opened.{Opened}
 use Rattle.robust_places.specs.declared.Opened.the-variants.{At, Damaged}
 use Rattle.robust_calls.specs.declared.resumes.Next.{Next}
 use Rattle.robust_calls.specs.declared.resumes.Next.the-variants.{Going, Answered}
-use Rattle.robust_calls.specs.declared.asks.Entry.{Entry}
-use Rattle.robust_calls.specs.declared.asks.Entry.the-variants as entry
+use Rattle.robust_calls.specs.declared.asks.Beginning.{Beginning}
+use Rattle.robust_calls.specs.declared.asks.Beginning.the-variants as beginning
 use Rattle.robust_calls.specs.Asks.{askedOf, listDamaged, firstPlace}
 use Rattle.robust_calls.specs.Resumes.{notedAt, listAfter}
 use Rattle.robust_calls.proofs.Laws.{EntrySound, asked-good, first-sound}
@@ -45,9 +45,9 @@ pub step-harmless : (records : ℕ) (who : RecordNumber) (s : Shared) (t : Recor
 unfolding stepOf
 step-harmless records who s t = judged-harmless (stepJudged records who s t) s t _ (opened-harmless (openedIn s t) s t)
 
-entered-harmless : (n : Entry) (s : Shared) (t : Record) → Harmless s t (leaves (enteredAt n (s .set) t) (s .cells))
-entered-harmless (entry.At p) s t = taken-harmless s t _ refl
-entered-harmless entry.Nowhere s t = unchanged-harmless s t refusal.NotKnown
+entered-harmless : (n : Beginning) (s : Shared) (t : Record) → Harmless s t (leaves (enteredAt n (s .set) t) (s .cells))
+entered-harmless (beginning.At p) s t = taken-harmless s t _ refl
+entered-harmless beginning.Nowhere s t = unchanged-harmless s t refusal.NotKnown
 
 pub start-harmless : (records : ℕ) (who : RecordNumber) (request : Request) (s : Shared) (t : Record) → Harmless s t (startOf records who request s t)
 unfolding startOf
@@ -92,10 +92,10 @@ start-passed : (records : ℕ) (who : RecordNumber) (request : Request) (s : Sha
 unfolding startVerdict
 start-passed records who request s t e = accepted _ e
 
-entry-leaves : (records : ℕ) (who : RecordNumber) (s : Shared) (t : Record) (n : Entry) → Serves records who s → EntrySound (s .set .capacity) (t .list) n
+entry-leaves : (records : ℕ) (who : RecordNumber) (s : Shared) (t : Record) (n : Beginning) → Serves records who s → EntrySound (s .set .capacity) (t .list) n
     → StepLeaves records who t (leaves (enteredAt n (s .set) t) (s .cells))
-entry-leaves records who s t (entry.At p) l e = going-leaves (Opens records who) listAfter t _ refl (ready records who s p (t .list) l e .judged)
-entry-leaves records who s t entry.Nowhere l e = record { opens = λ q. cc; idle = λ a q. cc }
+entry-leaves records who s t (beginning.At p) l e = going-leaves (Opens records who) listAfter t _ refl (ready records who s p (t .list) l e .judged)
+entry-leaves records who s t beginning.Nowhere l e = record { opens = λ q. cc; idle = λ a q. cc }
 
 pub start-leaves : (records : ℕ) (who : RecordNumber) (request : Request) (s : Shared) (t : Record) → StepLeaves records who t (startOf records who request s t)
 unfolding startOf

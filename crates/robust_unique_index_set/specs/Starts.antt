@@ -17,8 +17,8 @@ use Rattle.thread_records.specs.Records.{liveRecord, notIdle}
 use Rattle.thread_records.specs.Effects.{Effect, judged}
 use Rattle.robust_places.specs.Places.{closedAt}
 use Rattle.robust_calls.specs.declared.asks.Asked.{Asked}
-use Rattle.robust_calls.specs.declared.asks.Entry.{Entry}
-use Rattle.robust_calls.specs.declared.asks.Entry.the-variants.{At, Nowhere}
+use Rattle.robust_calls.specs.declared.asks.Beginning.{Beginning}
+use Rattle.robust_calls.specs.declared.asks.Beginning.the-variants.{At, Nowhere}
 use Rattle.robust_calls.specs.Asks.{askedOf, isNotKnown, isOwnerEmpty, isOutOfRange, listDamaged, firstPlace}
 use Rattle.robust_unique_index_set.specs.declared.RobustUniqueIndexSet.{RobustUniqueIndexSet}
 use Rattle.robust_unique_index_set.specs.declared.steps.Stepped.{Stepped}
@@ -47,7 +47,7 @@ startJudged records who request s t =
     startVerdict records who (s .set .capacity) (length (s .cells)) (askedOf request) t (listDamaged (callRead (request .call)) (t .list))
 
 -- the call enters at its first place; what is accepted is known, so the last case is of none
-abbrev pub enteredAt : Entry → RobustUniqueIndexSet → Record → Stepped
+abbrev pub enteredAt : Beginning → RobustUniqueIndexSet → Record → Stepped
 enteredAt (At p) set t = record { set = set; thread = liveRecord (closedAt p) (t .list); report = acceptedReport }
 enteredAt Nowhere set t = turnedAway set t refusal.NotKnown
 

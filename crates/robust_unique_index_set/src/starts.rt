@@ -9,7 +9,7 @@ use calls::Request;
 use calls::Tests;
 use calls::Verdict;
 use robust_calls::Asked;
-use robust_calls::Entry;
+use robust_calls::Beginning;
 use robust_calls::asked_of;
 use robust_calls::first_place;
 use robust_calls::is_list_damaged;
@@ -52,17 +52,17 @@ fn start_verdict(
 }
 
 // The call entered at its first place. What is not known is not accepted, and enters none.
-fn enter(entry: Entry, set: RobustUniqueIndexSet, thread: Record) -> Stepped
+fn enter(entry: Beginning, set: RobustUniqueIndexSet, thread: Record) -> Stepped
     ensures { λ r. ⌜ r ≡ enteredAt entry set thread ⌝ }
 {
     let list = thread.list;
     match entry {
-        Entry::At(place) => Stepped {
+        Beginning::At(place) => Stepped {
             set: set,
             thread: live_record(close(place), list),
             report: Report::accepted(),
         },
-        Entry::Nowhere => turned_away(set, thread, Refusal::NotKnown),
+        Beginning::Nowhere => turned_away(set, thread, Refusal::NotKnown),
     }
 }
 

@@ -1,5 +1,4 @@
 // The lent thread record: plain numbers and kinds, whatever they are, for both sets.
-use calls::Refusal;
 use calls::Report;
 use calls::SetKind;
 use calls::Tests;

@@ -12,8 +12,8 @@ use Rattle.exports.proofs.robust.husk_robust_start.Tie as tie
 empty-list-requires : tie.Need-empty-list-requires
 empty-list-requires c κs = search needs
 
-robust-call-requires : tie.Need-robust-call-requires
-robust-call-requires c κs = search needs
+robust-byte-turn-requires : tie.Need-robust-byte-turn-requires
+robust-byte-turn-requires c κs = search needs
 
 outcome-of-requires : tie.Need-outcome-of-requires
 outcome-of-requires c κs = search needs
@@ -28,7 +28,7 @@ returns : tie.Need-returns
 returns c =
     let a = c .before .before .before .before .before .before .before .before .before .before .before .before .args in
     let none = c .before .before .before .before .before .before .before .empty-list .ensures in
-    let came = c .before .before .before .before .before .before .robust-call .ensures in (
+    let came = c .before .before .before .before .before .before .robust-byte-turn .ensures in (
       left robustBegun _ _ _ (c .outcome-of .ensures) (came .0 ∙ ap (λ (l : OwnerList). robustCalled (recordNumber (a .who)) (startAsked (a .call) (a .index-or-room) (a .owner) (a .mode)) l (robustLent (a .capacity) (a .generation) (a .cells .now)) (a .records .now)) none),
       subst (λ (l : OwnerList). robustFits (recordNumber (a .who)) (startAsked (a .call) (a .index-or-room) (a .owner) (a .mode)) l (robustLent (a .capacity) (a .generation) (a .cells .now)) (a .records .now)) none (came .1),
     )
@@ -38,7 +38,7 @@ husk-robust-start-spec =
     tie.close
     (tie.spec
     empty-list-requires
-    robust-call-requires
+    robust-byte-turn-requires
     outcome-of-requires
     same-length
     same-length-2

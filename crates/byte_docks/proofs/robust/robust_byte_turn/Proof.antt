@@ -6,8 +6,8 @@ use Rattle.thread_records.specs.Effects.{Effect}
 use Rattle.robust_unique_index_set.specs.Steps.{Shared, shared}
 use Rattle.byte_docks.proofs.Came.{called, left-fits}
 use borrow.Author.Needs.{needs}
-use Rattle.byte_docks.proofs.robust.robust_call.Statement.{statement}
-use Rattle.byte_docks.proofs.robust.robust_call.Tie as tie
+use Rattle.byte_docks.proofs.robust.robust_byte_turn.Statement.{statement}
+use Rattle.byte_docks.proofs.robust.robust_byte_turn.Tie as tie
 
 read-record-requires : tie.Need-read-record-requires
 read-record-requires c κs = search needs
@@ -41,8 +41,8 @@ returns c =
       left-fits own (a .who) (a .records .now) _ _ _ turned counted read (c .before .before .before .before .before .before .fits2 .ensures),
     )
 
-pub robust-call-spec : {M : Type 1} → statement M
-robust-call-spec =
+pub robust-byte-turn-spec : {M : Type 1} → statement M
+robust-byte-turn-spec =
     tie.close
     (tie.spec
     read-record-requires
