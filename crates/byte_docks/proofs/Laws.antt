@@ -38,8 +38,8 @@ use Rattle.record_bytes.specs.Layout.{Fits, recordsIn, tableOf, laidAt, recordW
 use Rattle.record_bytes.proofs.Laid.{laid-before, laid-behind}
 use Rattle.record_bytes.proofs.Tables.{in-table, length-all-of, table-written}
 use Rattle.byte_docks.specs.Called.{Called, RecordsAlone, named, recordsAfter, calledBy, diedIn, listedIn}
-use Rattle.byte_docks.specs.Plain.{plainCame, plainCalled}
-use Rattle.byte_docks.specs.Robust.{robustCame, robustCalled}
+use Rattle.byte_docks.specs.Plain.{plainCame, plainCalled, plainFits}
+use Rattle.byte_docks.specs.Robust.{robustCame, robustCalled, robustFits}
 
 -- what a refused call leaves
 pub record Unmoved {S : Type 0} (s : S) (bytes : List ℕ) (c : Called S) : Type 0 where
@@ -119,13 +119,13 @@ turns-table own who s bytes h harmless fits =
 
 -- a call of a record that is there is its turn in that table, if the record that it leaves fits its bytes
 pub plain-turns : (who : RecordNumber) (o : Operation) (brought : OwnerList) (s : plain.Shared) (bytes : List ℕ) → who .0 < recordsIn bytes
-    → Fits (plainTurnOf (recordsIn bytes) who o brought s (named who bytes) .left .thread)
+    → plainFits who o brought s bytes
     → asTable (plainCalled who o brought s bytes) ≡ turnIn (λ n z t. plainTurnOf n who o brought z t) who (record { shared = s; records = tableOf bytes })
 plain-turns who o brought s bytes h fits =
     turns-table (λ n z t. plainTurnOf n who o brought z t) who s bytes h (turnlaws.plain-harmless (recordsIn bytes) who o brought s (named who bytes)) fits
 
 pub robust-turns : (who : RecordNumber) (o : Operation) (brought : OwnerList) (s : robust.Shared) (bytes : List ℕ) → who .0 < recordsIn bytes
-    → Fits (robustTurnOf (recordsIn bytes) who o brought s (named who bytes) .left .thread)
+    → robustFits who o brought s bytes
     → asTable (robustCalled who o brought s bytes) ≡ turnIn (λ n z t. robustTurnOf n who o brought z t) who (record { shared = s; records = tableOf bytes })
 robust-turns who o brought s bytes h fits =
     turns-table (λ n z t. robustTurnOf n who o brought z t) who s bytes h (turnlaws.robust-harmless (recordsIn bytes) who o brought s (named who bytes)) fits
