@@ -110,11 +110,11 @@ Good capacity list (asked.Recover m) = goodList list ≡ true
 Good capacity list asked.NotKnown = Unit {0}
 
 -- the entry is at a sound place
-abbrev pub EntrySound : ℕ → OwnerList → Beginning → Type 0
-EntrySound capacity list (beginning.At p) = sound capacity p list ≡ true
-EntrySound capacity list beginning.Nowhere = Unit {0}
+abbrev pub BeginningSound : ℕ → OwnerList → Beginning → Type 0
+BeginningSound capacity list (beginning.At p) = sound capacity p list ≡ true
+BeginningSound capacity list beginning.Nowhere = Unit {0}
 
-pub first-sound : (capacity : ℕ) (list : OwnerList) (a : Asked) → 0 < capacity → Good capacity list a → EntrySound capacity list (firstPlace a)
+pub first-sound : (capacity : ℕ) (list : OwnerList) (a : Asked) → 0 < capacity → Good capacity list a → BeginningSound capacity list (firstPlace a)
 unfolding findSound listSound
 first-sound capacity list (asked.Acquire o) h g = simp g
 first-sound capacity list (asked.Release i o m) h g = simp (g .0, lt-ltb (i .0) capacity (g .1))

@@ -24,7 +24,7 @@ use Rattle.robust_calls.specs.declared.asks.Beginning.{Beginning}
 use Rattle.robust_calls.specs.declared.asks.Beginning.the-variants as beginning
 use Rattle.robust_calls.specs.Asks.{askedOf, listDamaged, firstPlace}
 use Rattle.robust_calls.specs.Resumes.{notedAt, listAfter}
-use Rattle.robust_calls.proofs.Laws.{EntrySound, asked-good, first-sound}
+use Rattle.robust_calls.proofs.Laws.{BeginningSound, asked-good, first-sound}
 use Rattle.robust_unique_index_set.specs.Steps.{Shared, leaves, threadAfter, progressAfter, reportAfter, sawAt, nextAt, sharedAfter, advanced, turnVerdict, openedIn, stepJudged, steppedFrom, stepOf}
 use Rattle.robust_unique_index_set.specs.Starts.{startTests, startVerdict, startJudged, enteredAt, startedFrom, startOf}
 use Rattle.robust_unique_index_set.specs.Setups.{setFresh, setupJudged, setupOf}
@@ -92,7 +92,7 @@ start-passed : (records : ℕ) (who : RecordNumber) (request : Request) (s : Sha
 unfolding startVerdict
 start-passed records who request s t e = accepted _ e
 
-entry-leaves : (records : ℕ) (who : RecordNumber) (s : Shared) (t : Record) (n : Beginning) → Serves records who s → EntrySound (s .set .capacity) (t .list) n
+entry-leaves : (records : ℕ) (who : RecordNumber) (s : Shared) (t : Record) (n : Beginning) → Serves records who s → BeginningSound (s .set .capacity) (t .list) n
     → StepLeaves records who t (leaves (enteredAt n (s .set) t) (s .cells))
 entry-leaves records who s t (beginning.At p) l e = going-leaves (Opens records who) listAfter t _ refl (ready records who s p (t .list) l e .judged)
 entry-leaves records who s t beginning.Nowhere l e = record { opens = λ q. cc; idle = λ a q. cc }
