@@ -1,4 +1,4 @@
--- How many bytes a record takes, as the machine lays it out: computed from its type, so a new field of `Record` moves no walk. And that a record's place
+-- How many bytes a record takes, as the machine lays it out: computed from its type, so a new field of `Record` moves nothing. And that a record's place
 -- in a slice that has room can be told in a machine word. Assumes nothing.
 use Prim.Native.Nat.{ℕ, ◌<◌, ◌*◌, ◌^◌}
 use native.Mathlib.Omega.{arith}

@@ -1,4 +1,4 @@
--- Steps of `Types/Kit.antt`'s calculus that several walks take.
+-- Steps of `Types/Kit.antt`'s calculus, for a proof that walks the code of a function that goes over a slice. No function needs one now.
 --     ifs          `if c { .. return }` with no `else`, and what comes after it
 --     whiles       the test of a `while`: where it holds the rest of the turn runs, and where it fails the loop is left
 --     closed       a `&mut [T]` that was closed at zs, as long as the list was that it was opened at, is owned again
