@@ -1,5 +1,5 @@
 -- The robust set's shared accesses: what each shows, and what it leaves of the generation and the cells. Which access each place makes
--- is `accessAt` of robust_calls, the local work after it `resumedAt`.
+-- is `access_at` of robust_calls, the local work after it `resumed_at`.
 use Rattle.std.specs.Prelude.{ℕ, Bool, true, cond, List, get_or, set, ltb, eqb}
 use Rattle.unique_index_set_enums.specs.declared.OwnerId.{OwnerId}
 use Rattle.unique_index_set_enums.specs.declared.Generation.{Generation}

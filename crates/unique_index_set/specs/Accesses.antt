@@ -1,5 +1,5 @@
 -- The plain set's shared accesses, to be read against unique_index_set.rs: `access_at` is the one shared access of each place, `saw_of`,
--- `word_after` and `slots_after` what that access shows and does. The local work after it is `resumedAt` of plain_calls.
+-- `word_after` and `slots_after` what that access shows and does. The local work after it is `resumed_at` of plain_calls.
 use Rattle.std.specs.Prelude.{ℕ, ◌+◌, ◌-◌, ◌%◌, ◌^◌, Bool, true, cond, List, ◌==◌, nat_lt, slice_index, slice_set}
 use Rattle.unique_index_set_enums.specs.declared.Index.{Index}
 use Rattle.unique_index_set_enums.specs.declared.ReleaseMode.{ReleaseMode}
