@@ -1,5 +1,5 @@
 #!/usr/bin/env python3
-"""Brings the repository's own definitions, lemmas, constructors and fields of specs/ and proofs/ to today's spelling (PORTING.md part 3, CONTRACT_STYLE.md 'Names').
+"""Brings the repository's own definitions, lemmas, constructors and fields of specs/ and proofs/ to today's spelling.
 
 usage: python3 respell.py [--check] [--pages] [--table FILE]      at the top of a checkout in which port.py ran and was committed
 
@@ -16,7 +16,7 @@ The rule, by what a name stands for:
            filled-length -> filled-length, step-passed -> step_passed, access-within -> access_within
   capital  another name that begins with a capital (a formula, a short name for a type): UpperCamelCase, as it mostly is.
   proof    of a function F, in proofs/../F/Proof.antt: F_spec, as rt check wants it. All other names of a Proof.antt stay (it is rewritten with today's goal names anyway).
-A lemma that falls together with another name gets _lem (CONTRACT_STYLE 'Names', 3); every other clash has to stand in CLASHES below, else nothing is written.
+A lemma that falls together with another name gets _lem; every other clash has to stand in CLASHES below, else nothing is written.
 """
 
 import collections
