@@ -1,5 +1,5 @@
 -- What the types of a record's fields say of them: the call's numbers and the list's are of their widths.
-use Rattle.std.specs.Prelude.{ℕ, ◌<◌, ◌^◌, ◌≡◌, length, get_or}
+use Rattle.std.specs.Prelude.{◌<◌, ◌^◌, ◌≡◌, length, get_or}
 use Rattle.unique_index_set_enums.specs.Kinds.{owner}
 use Rattle.thread_records.specs.declared.OwnerList.{OwnerList}
 use Rattle.thread_records.specs.declared.Remembered.{Remembered}

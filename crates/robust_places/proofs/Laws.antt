@@ -1,5 +1,5 @@
 -- An opened closed place is itself, and a place that opens is sound. Assumes nothing.
-use Rattle.std.proofs.Common.{◌≡◌, ℕ, ◌-◌, Bool, true, false, cond, eqb, refl, eqb-true}
+use Rattle.std.proofs.Common.{◌≡◌, ℕ, Bool, true, false, cond, eqb, refl, eqb-true}
 use Rattle.unique_index_set_enums.proofs.Choice.{both_true}
 use Rattle.thread_records.specs.declared.OwnerList.{OwnerList}
 use Rattle.thread_records.specs.declared.Remembered.{Remembered}

@@ -1,13 +1,13 @@
 -- The invariant: the shared words against the stack, and each record against both. Assumes nothing.
-use mathlib.Core.Path.{◌≡◌, refl, ap, subst, subst⁻¹}
+use mathlib.Core.Path.{◌≡◌, refl, ap, subst⁻¹}
 use mathlib.Core.Bool.{Bool, true, false}
 use mathlib.Core.List.{List}
-use Prim.Native.Nat.{ℕ, ◌+◌, ◌-◌, ◌%◌, ◌≤◌, ◌<◌}
+use Prim.Native.Nat.{ℕ, ◌+◌, ◌%◌, ◌≤◌, ◌<◌}
 use native.Mathlib.Omega.{arith}
 use native.Mathlib.Decide.{ℕ_discrete}
 use lib.ListN.{length, get_or, set}
 use lib.Seq.{get_or-set_same, get_or-set_other}
-use Rattle.stack_order.proofs.Machine.{head_of, tag_of, bor_of, lock_mark, free, Place, idle, acquire_look, borrowed_look, locked_look, acquire_read, acquire_exchange, acquire_write, release_look, release_write, release_exchange, Rec, nobody, at}
+use Rattle.stack_order.proofs.Machine.{head_of, tag_of, bor_of, lock_mark, free, Place, idle, acquire_look, borrowed_look, locked_look, acquire_read, acquire_exchange, acquire_write, release_look, release_write, release_exchange, Rec, nobody}
 use Rattle.stack_order.proofs.Lists.{below, top, second, Chain}
 use Rattle.stack_order.proofs.Model.{Held, HeldAt, State, live_place, live_of}
 use Rattle.stack_order.specs.Stack.{count, Stack}

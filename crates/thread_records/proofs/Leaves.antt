@@ -3,7 +3,7 @@ use Prim.Native.Nat.{ℕ}
 use mathlib.Core.Path.{◌≡◌, refl}
 use native.Mathlib.Omega.{arith}
 use Rattle.calls.specs.declared.Answer.{Answer}
-use Rattle.calls.specs.declared.Progress.TheVariants.{Accepted, Answered, Refused}
+use Rattle.calls.specs.declared.Progress.TheVariants.{Accepted, Answered}
 use Rattle.calls.specs.declared.Verdict.{Verdict}
 use Rattle.calls.specs.declared.Verdict.TheVariants as verdict
 use Rattle.thread_records.specs.declared.OwnerList.{OwnerList}

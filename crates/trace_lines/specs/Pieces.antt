@@ -1,6 +1,6 @@
 -- What one call does with a piece of a schedule's bytes: the setup, or as many turns as there are whole entries and room for their lines; and what
 -- ends a trace.
-use Rattle.std.specs.Prelude.{ℕ, ◌+◌, ◌-◌, ◌≡◌, Bool, cond, [], ◌++◌, eqb, length, replicate}
+use Rattle.std.specs.Prelude.{ℕ, ◌-◌, ◌≡◌, Bool, cond, [], ◌++◌, eqb, length, replicate}
 use mathlib.Core.List as list
 use Rattle.unique_index_set_enums.specs.Kinds.{record_number}
 use Rattle.thread_records.specs.Records.{empty_list, idle_record}

@@ -4,13 +4,12 @@ use Rattle.std.proofs.Common.{◌≡◌, ℕ, true, sym, refl, ◌∙◌, subst}
 use Rattle.unique_index_set_enums.specs.declared.RecordNumber.{RecordNumber}
 use Rattle.calls.specs.declared.Answer.{Answer}
 use Rattle.calls.specs.declared.Refusal.TheVariants as refusal
-use Rattle.calls.specs.declared.Progress.TheVariants as progress
 use Rattle.calls.specs.declared.Request.{Request}
 use Rattle.calls.specs.declared.Verdict.TheVariants.{Accepted}
 use Rattle.thread_records.specs.declared.OwnerList.{OwnerList}
 use Rattle.thread_records.specs.declared.Record.{Record}
 use Rattle.thread_records.specs.Records.{live_record}
-use Rattle.thread_records.specs.Effects.{Effect, judged}
+use Rattle.thread_records.specs.Effects.{Effect}
 use Rattle.thread_records.proofs.Effects.{Harmless, taken, taken_harmless, unchanged_harmless, judged_harmless}
 use Rattle.thread_records.proofs.Leaves.{Leaves, going_leaves, answered_leaves, judged_leaves}
 use Rattle.thread_records.proofs.Drains.{Keeps, keeps, DrainHarmless, drain_harmless}
