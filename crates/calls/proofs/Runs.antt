@@ -1,29 +1,17 @@
--- A run's next step, where the budget leaves one: it goes on, or stops. A run is the iterate of its step, as many times as it
--- counts, and at most the budget's. Assumes nothing.
+-- A run that goes on after its next step. A run is the iterate of its step, as many times as it counts, and at most the budget's.
+-- Assumes nothing.
 use Prim.Native.Nat.{ℕ, zero, suc, ◌+◌, ◌-◌, ◌≤◌, ◌<◌}
 use mathlib.Core.Path.{◌≡◌, refl}
 use mathlib.Core.Bool.{Bool, true, false, cond}
 use native.Mathlib.Omega.{arith}
 use Rattle.calls.specs.Runs.{Run, run_from}
 
-module _ {A : Type 0} (step : A → A) (going : A → Bool) (b n : ℕ) (a next : A) (e : next ≡ step a) where
-  pub run_goes : n < b → going next ≡ true → run_from step going (b - n) n a ≡ run_from step going (b - (n + 1)) (n + 1) next
-  unfolding run_from
-  run_goes h g =
-      let k : b - n ≡ suc (b - (n + 1)) = omega arith in
-      rw k (rw (← e) (rw g refl))
-
-  pub run_stops : n < b → going next ≡ false → run_from step going (b - n) n a ≡ record { left = next; steps = n + 1 }
-  unfolding run_from
-  run_stops h g =
-      let k : b - n ≡ suc (b - (n + 1)) = omega arith in
-      rw k (rw (← e) (rw g refl))
-
-pub run_ends : {A : Type 0} (step : A → A) (going : A → Bool) (b n : ℕ) (a : A) → b ≤ n → run_from step going (b - n) n a ≡ record { left = a; steps = n }
+pub run_goes : {A : Type 0} (step : A → A) (going : A → Bool) (b n : ℕ) (a next : A) → next ≡ step a → n < b → going next ≡ true
+    → run_from step going (b - n) n a ≡ run_from step going (b - (n + 1)) (n + 1) next
 unfolding run_from
-run_ends step going b n a h =
-    let k : b - n ≡ zero = omega arith in
-    rw k refl
+run_goes step going b n a next e h g =
+    let k : b - n ≡ suc (b - (n + 1)) = omega arith in
+    rw k (rw (← e) (rw g refl))
 
 abbrev pub times : {A : Type 0} → ℕ → (A → A) → A → A
 times zero step a = a

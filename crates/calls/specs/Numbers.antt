@@ -1,23 +1,23 @@
 -- The scope's number and value for each call, answer and refusal.
-use Rattle.std.specs.Prelude.{ℕ, cond, eqb}
+use Rattle.std.specs.Prelude.{ℕ, cond, eqb, Result, Ok, Err}
 use Rattle.unique_index_set_enums.specs.Numbers.{state_value, acquire_failure_number, creation_error_number}
+use Rattle.calls.specs.declared.Call.{Call}
 use Rattle.calls.specs.declared.Call.TheVariants as call
-use Rattle.calls.specs.declared.CallRead.{CallRead}
-use Rattle.calls.specs.declared.CallRead.TheVariants.{Known, Unknown}
+use Rattle.calls.specs.declared.UnknownCall.{UnknownCall}
 use Rattle.calls.specs.declared.Answer.{Answer}
 use Rattle.calls.specs.declared.Answer.TheVariants.{Acquired, NotAcquired, Released, NotOwned, NotBorrowed, Borrowed, Locked, Found, Recovered}
 use Rattle.calls.specs.declared.Refusal.{Refusal}
 use Rattle.calls.specs.declared.Refusal.TheVariants.{Capacity, BufferTooShort, RecordNotReady, RecordDamaged, NotKnown, OwnerIsEmpty, IndexOutOfRange, IndexNotHeld}
 
 -- a lent number read as a call
-unfoldable pub call_read : ℕ → CallRead
+unfoldable pub call_read : ℕ → Result Call UnknownCall
 call_read n =
-    cond (eqb n 1) (Known call.Acquire)
-    (cond (eqb n 2) (Known call.Release)
-    (cond (eqb n 3) (Known call.BorrowedIndices)
-    (cond (eqb n 4) (Known call.IsLocked)
-    (cond (eqb n 5) (Known call.Find)
-    (cond (eqb n 6) (Known call.Recover) Unknown)))))
+    cond (eqb n 1) (Ok call.Acquire)
+    (cond (eqb n 2) (Ok call.Release)
+    (cond (eqb n 3) (Ok call.BorrowedIndices)
+    (cond (eqb n 4) (Ok call.IsLocked)
+    (cond (eqb n 5) (Ok call.Find)
+    (cond (eqb n 6) (Ok call.Recover) (Err (record { 0 = n })))))))
 
 abbrev pub answer_number : Answer → ℕ
 answer_number (Acquired index) = 0

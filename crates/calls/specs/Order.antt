@@ -1,12 +1,10 @@
 -- The order in which a call is refused, for every call of both sets: each refusal is given exactly where its own test fails and
 -- none before it in the order does.
-use Rattle.std.specs.Prelude.{Bool, false, cond, List, [], ◌∷◌}
+use Rattle.std.specs.Prelude.{Bool, false, cond, List, [], ◌∷◌, Result, Ok, Err}
 use Rattle.unique_index_set_enums.specs.declared.UniqueIndexCreationError.TheVariants.{ProvidedCapacityGreaterThanMaxCapacity, ProvidedCapacityIsZero}
 use Rattle.calls.specs.declared.Refusal.{Refusal}
 use Rattle.calls.specs.declared.Refusal.TheVariants.{Capacity, BufferTooShort, RecordNotReady, RecordDamaged, NotKnown, OwnerIsEmpty, IndexOutOfRange, IndexNotHeld}
 use Rattle.calls.specs.declared.Tests.{Tests}
-use Rattle.calls.specs.declared.Verdict.{Verdict}
-use Rattle.calls.specs.declared.Verdict.TheVariants.{Accepted, Refused}
 
 -- 3, 4, 10, 9, 11, 13, 5, 7, 8; 12 is the reader's, and comes before any call is made
 abbrev pub refusal_order : List Refusal
@@ -35,11 +33,11 @@ failed t IndexOutOfRange = t.index_out_of_range
 failed t IndexNotHeld = t.index_not_held
 
 -- the first of them that fails
-abbrev pub first_failed : Tests → List Refusal → Verdict
-first_failed t [] = Accepted
-first_failed t (r ∷ rs) = cond (failed t r) (Refused r) (first_failed t rs)
+abbrev pub first_failed : Tests → List Refusal → Result (Unit {0}) Refusal
+first_failed t [] = Ok tt
+first_failed t (r ∷ rs) = cond (failed t r) (Err r) (first_failed t rs)
 
-unfoldable pub verdict_of : Tests → Verdict
+unfoldable pub verdict_of : Tests → Result (Unit {0}) Refusal
 verdict_of t = first_failed t refusal_order
 
 -- what a setup of either set can fail: 3, 4 and 10

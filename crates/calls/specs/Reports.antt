@@ -1,20 +1,19 @@
 -- What is reported where nothing is told beside the progress.
-use Rattle.std.specs.Prelude.{Bool, true, false}
+use Rattle.std.specs.Prelude.{Bool, true, false, None}
 use Rattle.calls.specs.declared.Answer.{Answer}
 use Rattle.calls.specs.declared.Refusal.{Refusal}
 use Rattle.calls.specs.declared.Progress.{Progress}
 use Rattle.calls.specs.declared.Progress.TheVariants.{Accepted, Answered, Refused}
-use Rattle.calls.specs.declared.Noted.TheVariants.{Nothing}
 use Rattle.calls.specs.declared.Report.{Report}
 
 abbrev pub accepted_report : Report
-accepted_report = record { progress = Accepted; noted = Nothing }
+accepted_report = record { progress = Accepted; noted = None }
 
 abbrev pub answered_report : Answer → Report
-answered_report answer = record { progress = Answered answer; noted = Nothing }
+answered_report answer = record { progress = Answered answer; noted = None }
 
 abbrev pub refused_report : Refusal → Report
-refused_report why = record { progress = Refused why; noted = Nothing }
+refused_report why = record { progress = Refused why; noted = None }
 
 -- the call goes on: no answer yet
 abbrev pub goes_on : Progress → Bool

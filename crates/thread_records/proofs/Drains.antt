@@ -4,14 +4,13 @@ use Prim.Native.Nat.{ℕ, zero, suc, ◌+◌}
 use mathlib.Core.Path.{◌≡◌, refl, sym}
 use mathlib.Core.Bool.{true}
 use mathlib.Core.List.{List}
-use Rattle.unique_index_set_enums.proofs.Choice.{choose}
+use Rattle.std.specs.Prelude.{Result, Ok, Err}
+use Rattle.std.proofs.lemmas.Bool.{cond_both}
 use Rattle.calls.specs.declared.Answer.{Answer}
 use Rattle.calls.specs.declared.Refusal.{Refusal}
 use Rattle.calls.specs.declared.Progress.{Progress}
 use Rattle.calls.specs.declared.Progress.TheVariants as progress
 use Rattle.calls.specs.declared.Tests.{Tests}
-use Rattle.calls.specs.declared.Verdict.{Verdict}
-use Rattle.calls.specs.declared.Verdict.TheVariants.{Accepted, Refused}
 use Rattle.calls.specs.Order.{verdict_of}
 use Rattle.calls.specs.Reports.{goes_on}
 use Rattle.calls.specs.Runs.{Run, run_from}
@@ -40,20 +39,20 @@ module _ {S : Type 0} (step : Effect S → Effect S) (Ready : Effect S → Type 
   unfolding run_from
   run_taken zero n e r h = h
   run_taken (suc b) n e r h =
-      choose (λ u. taken u.left.report.progress ≡ true) (going (step e)) (run_from step going b (n + 1) (step e)) (record { left = step e; steps = n + 1 })
+      cond_both (going (step e)) (run_from step going b (n + 1) (step e)) (record { left = step e; steps = n + 1 }) (λ u. taken u.left.report.progress ≡ true)
       (λ g. run_taken b (n + 1) (step e) (k.stays e r g) (k.takes e r)) (λ _. k.takes e r)
 
   module _ (b : ℕ) (s : S) (t : Record) where
-    pub drain_harmless : (v : Verdict) → (v ≡ Accepted → Ready (begun s t)) → DrainHarmless s t (drained v step b s t)
-    drain_harmless (Refused why) f = record { harmless = unchanged_harmless s t why; none = λ w q. refl }
-    drain_harmless Accepted f =
+    pub drain_harmless : (v : Result (Unit {0}) Refusal) → (v ≡ Ok tt → Ready (begun s t)) → DrainHarmless s t (drained v step b s t)
+    drain_harmless (Err why) f = record { harmless = unchanged_harmless s t why; none = λ w q. refl }
+    drain_harmless (Ok u) f =
         let h = run_taken b 0 (begun s t) (f refl) refl in
         record { harmless = taken_harmless s t _ h; none = λ why q. (let z : taken (progress.Refused why) ≡ true = rw q at h in cc) }
 
-    pub drain_among : (ns : List ℕ) (tests : Tests) (v : Verdict) → v ≡ verdict_of tests → FailedAmong ns tests → (v ≡ Accepted → Ready (begun s t))
+    pub drain_among : (ns : List ℕ) (tests : Tests) (v : Result (Unit {0}) Refusal) → v ≡ verdict_of tests → FailedAmong ns tests → (v ≡ Ok tt → Ready (begun s t))
         → RefusedAmong ns (drained v step b s t).left
-    drain_among ns tests (Refused why) q f g = unchanged-among ns s t why (f why (refused_failed tests why (sym q)))
-    drain_among ns tests Accepted q f g = taken_among ns (run_from step going b 0 (begun s t)).left (run_taken b 0 (begun s t) (g refl) refl)
+    drain_among ns tests (Err why) q f g = unchanged-among ns s t why (f why (refused_failed tests why (sym q)))
+    drain_among ns tests (Ok u) q f g = taken_among ns (run_from step going b 0 (begun s t)).left (run_taken b 0 (begun s t) (g refl) refl)
 
 accepted_goes : (p : Progress) → goes_on p ≡ true → p ≡ progress.Accepted
 accepted_goes progress.Accepted e = refl
@@ -61,10 +60,10 @@ accepted_goes (progress.Answered a) e = cc
 accepted_goes (progress.Refused why) e = cc
 
 -- a set's steps keep records ready where what goes on is accepted again and what is accepted is taken
-pub keeps : {S : Type 0} (judge : S → Record → Verdict) (step : S → Record → Effect S) (after : Answer → OwnerList → OwnerList)
-    → ((s : S) (t : Record) → Leaves (λ s t. judge s t ≡ Accepted) after t (step s t))
-    → ((s : S) (t : Record) → judge s t ≡ Accepted → taken (step s t).report.progress ≡ true)
-    → Keeps (λ e. step e.shared e.thread) (λ e. judge e.shared e.thread ≡ Accepted)
+pub keeps : {S : Type 0} (judge : S → Record → Result (Unit {0}) Refusal) (step : S → Record → Effect S) (after : Answer → OwnerList → OwnerList)
+    → ((s : S) (t : Record) → Leaves (λ s t. judge s t ≡ Ok tt) after t (step s t))
+    → ((s : S) (t : Record) → judge s t ≡ Ok tt → taken (step s t).report.progress ≡ true)
+    → Keeps (λ e. step e.shared e.thread) (λ e. judge e.shared e.thread ≡ Ok tt)
 keeps judge step after l k = record {
   takes = λ e r. k e.shared e.thread r;
   stays = λ e r g. (l e.shared e.thread).opens (accepted_goes (step e.shared e.thread).report.progress g);

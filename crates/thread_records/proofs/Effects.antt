@@ -3,11 +3,10 @@ use Prim.Native.Nat.{ℕ}
 use mathlib.Core.Path.{◌≡◌, refl}
 use mathlib.Core.Bool.{Bool, true, false}
 use native.Mathlib.Omega.{arith}
+use Rattle.std.specs.Prelude.{Result, Ok, Err}
 use Rattle.calls.specs.declared.Refusal.{Refusal}
 use Rattle.calls.specs.declared.Progress.{Progress}
 use Rattle.calls.specs.declared.Progress.TheVariants.{Accepted, Answered, Refused}
-use Rattle.calls.specs.declared.Verdict.{Verdict}
-use Rattle.calls.specs.declared.Verdict.TheVariants as verdict
 use Rattle.thread_records.specs.declared.Record.{Record}
 use Rattle.thread_records.specs.Effects.{Effect, unchanged, judged}
 
@@ -34,6 +33,6 @@ taken_harmless s t e p why q =
     let y : ◌≡◌ {A = ℕ} 0 1 = cc in
     absurd (omega arith)
 
-pub judged_harmless : {S : Type 0} (v : Verdict) (s : S) (t : Record) (e : Effect S) → Harmless s t e → Harmless s t (judged v s t e)
-judged_harmless (verdict.Refused why) s t e h = unchanged_harmless s t why
-judged_harmless verdict.Accepted s t e h = h
+pub judged_harmless : {S : Type 0} (v : Result (Unit {0}) Refusal) (s : S) (t : Record) (e : Effect S) → Harmless s t e → Harmless s t (judged v s t e)
+judged_harmless (Err why) s t e h = unchanged_harmless s t why
+judged_harmless (Ok u) s t e h = h

@@ -1,23 +1,33 @@
--- A filled buffer: one write more, its length, and what it holds below n and beyond. Assumes nothing.
-use Prim.Native.Nat.{ℕ, zero, suc, ◌+◌, ◌≤◌, ◌<◌}
+-- A filled buffer: where one value fills it, its length, and what it holds below n and beyond. Assumes nothing.
+use Prim.Native.Nat.{ℕ, zero, suc, ◌≤◌, ◌<◌}
 use mathlib.Core.Path.{◌≡◌, refl, sym, ap, ◌∙◌}
 use mathlib.Core.Bool.{Bool, true, false}
-use mathlib.Core.List.{List}
+use mathlib.Core.List.{List, ◌∷◌, ◌++◌}
 use lib.Dec.{eqb}
 use borrow.Author.Tests.{eqb-true, eqb-false}
 use native.Mathlib.Omega.{arith}
-use native.Mathlib.Numerals.{add-one, lt_of_le_of_ne}
+use native.Mathlib.Numerals.{lt_of_le_of_ne}
 use lib.ListN.{length, get_or, set, length-set}
 use lib.Seq.{get_or-set_same, get_or-set_other}
+use Rattle.std.proofs.Common.{drop, drop-cons}
+use Rattle.std.specs.Prelude.{replicate}
 use Rattle.thread_records.specs.Filled.{filled}
 
-pub filled_none : (f : ℕ → ℕ) (xs : List ℕ) → xs ≡ filled f 0 xs
-unfolding filled
-filled_none f xs = refl
+seam : (n v x : ℕ) (r : List ℕ) → set (replicate n v ++ (x ∷ r)) n v ≡ v ∷ (replicate n v ++ r)
+seam zero v x r = refl
+seam (suc n) v x r = ap (λ (l : List ℕ). v ∷ l) (seam n v x r)
 
-pub filled_more : (f : ℕ → ℕ) (i : ℕ) (xs ys : List ℕ) → ys ≡ filled f i xs → set ys i (f i) ≡ filled f (i + 1) xs
+one_more : (n v : ℕ) (xs : List ℕ) → n < length xs → set (replicate n v ++ drop n xs) n v ≡ replicate (suc n) v ++ drop (suc n) xs
+one_more n v xs h = rw (drop-cons xs n 0 h) (seam n v (get_or xs n 0) (drop (suc n) xs))
+
+same : (v n : ℕ) (xs : List ℕ) → n ≤ length xs → filled (λ i. v) n xs ≡ replicate n v ++ drop n xs
 unfolding filled
-filled_more f i xs ys q = ap (λ (l : List ℕ). set l i (f i)) q ∙ sym (ap (λ (n : ℕ). filled f n xs) (add-one i))
+same v zero xs h = refl
+same v (suc n) xs h = rw (same v n xs (omega arith)) (one_more n v xs (omega arith))
+
+-- one value in each of the first n entries
+pub filled_front : (v n : ℕ) (xs front : List ℕ) → n ≤ length xs → front ≡ replicate n v → front ++ drop n xs ≡ filled (λ i. v) n xs
+filled_front v n xs front h q = rw q (sym (same v n xs h))
 
 pub filled-length : (f : ℕ → ℕ) (n : ℕ) (xs : List ℕ) → length (filled f n xs) ≡ length xs
 unfolding filled

@@ -2,10 +2,10 @@
 use Prim.Native.Nat.{ℕ}
 use mathlib.Core.Path.{◌≡◌, refl}
 use native.Mathlib.Omega.{arith}
+use Rattle.std.specs.Prelude.{Result, Ok, Err}
 use Rattle.calls.specs.declared.Answer.{Answer}
+use Rattle.calls.specs.declared.Refusal.{Refusal}
 use Rattle.calls.specs.declared.Progress.TheVariants.{Accepted, Answered}
-use Rattle.calls.specs.declared.Verdict.{Verdict}
-use Rattle.calls.specs.declared.Verdict.TheVariants as verdict
 use Rattle.thread_records.specs.declared.OwnerList.{OwnerList}
 use Rattle.thread_records.specs.declared.Record.{Record}
 use Rattle.thread_records.specs.Records.{idle_record}
@@ -29,6 +29,6 @@ module _ {S : Type 0} (Opens : S → Record → Type 0) (after : Answer → Owne
     idle = λ b q. (let z : Answered a ≡ Answered b = rw p at q in rw (← same_answer a b z) i);
   }
 
-  pub judged_leaves : (v : Verdict) (s : S) (e : Effect S) → (v ≡ verdict.Accepted → Leaves Opens after t e) → Leaves Opens after t (judged v s t e)
-  judged_leaves (verdict.Refused why) s e f = record { opens = λ q. (let y : ◌≡◌ {A = ℕ} 0 1 = cc in absurd (omega arith)); idle = λ a q. cc }
-  judged_leaves verdict.Accepted s e f = f refl
+  pub judged_leaves : (v : Result (Unit {0}) Refusal) (s : S) (e : Effect S) → (v ≡ Ok tt → Leaves Opens after t e) → Leaves Opens after t (judged v s t e)
+  judged_leaves (Err why) s e f = record { opens = λ q. (let y : ◌≡◌ {A = ℕ} 0 1 = cc in absurd (omega arith)); idle = λ a q. cc }
+  judged_leaves (Ok u) s e f = f refl

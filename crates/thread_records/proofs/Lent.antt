@@ -3,10 +3,10 @@ use Prim.Native.Nat.{ℕ}
 use mathlib.Core.Path.{◌≡◌, refl}
 use mathlib.Core.Bool.{Bool, false}
 use lib.Dec.{leb, eqb}
+use Rattle.std.specs.Prelude.{Ok}
 use Rattle.unique_index_set_enums.specs.declared.RecordNumber.{RecordNumber}
 use Rattle.unique_index_set_enums.proofs.Choice.{both_false}
 use Rattle.calls.specs.declared.Tests.{Tests}
-use Rattle.calls.specs.declared.Verdict.TheVariants.{Accepted}
 use Rattle.calls.specs.Order.{tests_at_turn, verdict_of}
 use Rattle.calls.proofs.Order.{AllPassed, all_accepted}
 use Rattle.thread_records.specs.declared.OwnerList.{OwnerList}
@@ -49,7 +49,7 @@ calling call list records who h b = simp (h, b)
 
 -- the next step of a live record in a call that opens is accepted
 pub lent_accepted : (above zero short damaged : Bool) (call : Remembered) (list : OwnerList) (records : ℕ) (who : RecordNumber) → Lent above zero short records who
-    → eqb call.place 0 ≡ false → damaged ≡ false → verdict_of (tests_at_turn above zero short (not_calling (live_record call list) records who) damaged false) ≡ Accepted
+    → eqb call.place 0 ≡ false → damaged ≡ false → verdict_of (tests_at_turn above zero short (not_calling (live_record call list) records who) damaged false) ≡ Ok tt
 lent_accepted above zero short damaged call list records who l b d =
     all_accepted _ (record {
       above = l.above;

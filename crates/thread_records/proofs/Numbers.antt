@@ -4,13 +4,12 @@ use mathlib.Core.Path.{◌≡◌, refl, sym}
 use mathlib.Core.Bool.{Bool, true, false, cond}
 use mathlib.Core.List.{List, [], ◌∷◌}
 use lib.Dec.{eqb}
+use Rattle.std.specs.Prelude.{Result, Ok, Err}
 use Rattle.unique_index_set_enums.specs.declared.UniqueIndexCreationError.TheVariants.{ProvidedCapacityGreaterThanMaxCapacity, ProvidedCapacityIsZero}
 use Rattle.calls.specs.declared.Refusal.{Refusal}
 use Rattle.calls.specs.declared.Refusal.TheVariants.{Capacity, BufferTooShort, RecordNotReady, RecordDamaged, NotKnown, OwnerIsEmpty, IndexOutOfRange, IndexNotHeld}
 use Rattle.calls.specs.declared.Progress.TheVariants as progress
 use Rattle.calls.specs.declared.Tests.{Tests}
-use Rattle.calls.specs.declared.Verdict.{Verdict}
-use Rattle.calls.specs.declared.Verdict.TheVariants as verdict
 use Rattle.calls.specs.Numbers.{refusal_number}
 use Rattle.calls.specs.Order.{failed, verdict_of, tests_at_setup, tests_at_turn, tests_of_record}
 use Rattle.calls.proofs.Order.{refused_failed}
@@ -39,10 +38,10 @@ unchanged-among ns s r w e why p = rw (same_refusal w why p) at e
 pub taken_among : {S : Type 0} (ns : List ℕ) (e : Effect S) → taken e.report.progress ≡ true → RefusedAmong ns e
 taken_among ns e h why p = let z : taken (progress.Refused why) ≡ true = rw p at h in cc
 
-pub judged_among : {S : Type 0} (ns : List ℕ) (v : Verdict) (t : Tests) (s : S) (r : Record) (e : Effect S) → v ≡ verdict_of t
+pub judged_among : {S : Type 0} (ns : List ℕ) (v : Result (Unit {0}) Refusal) (t : Tests) (s : S) (r : Record) (e : Effect S) → v ≡ verdict_of t
     → FailedAmong ns t → RefusedAmong ns e → RefusedAmong ns (judged v s r e)
-judged_among ns (verdict.Refused w) t s r e q f g = unchanged-among ns s r w (f w (refused_failed t w (sym q)))
-judged_among ns verdict.Accepted t s r e q f g = g
+judged_among ns (Err w) t s r e q f g = unchanged-among ns s r w (f w (refused_failed t w (sym q)))
+judged_among ns (Ok u) t s r e q f g = g
 
 -- a setup is refused with 3, 4 or 10
 abbrev pub setup_numbers : List ℕ

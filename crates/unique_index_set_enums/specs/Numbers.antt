@@ -1,5 +1,5 @@
 -- The scope's number or value for each case of the Rust's enums, and a lent number read as a mode.
-use Rattle.std.specs.Prelude.{ℕ, cond, eqb}
+use Rattle.std.specs.Prelude.{ℕ, cond, eqb, Result, Ok, Err}
 use Rattle.unique_index_set_enums.specs.declared.ReleaseMode.{ReleaseMode}
 use Rattle.unique_index_set_enums.specs.declared.ReleaseMode.TheVariants.{Default, LockIfLastIndex}
 use Rattle.unique_index_set_enums.specs.declared.ReleaseState.{ReleaseState}
@@ -8,16 +8,15 @@ use Rattle.unique_index_set_enums.specs.declared.UniqueIndexSetAcquireFailure.{U
 use Rattle.unique_index_set_enums.specs.declared.UniqueIndexSetAcquireFailure.TheVariants.{OutOfIndices, IsLocked}
 use Rattle.unique_index_set_enums.specs.declared.UniqueIndexCreationError.{UniqueIndexCreationError}
 use Rattle.unique_index_set_enums.specs.declared.UniqueIndexCreationError.TheVariants.{ProvidedCapacityGreaterThanMaxCapacity, ProvidedCapacityIsZero}
-use Rattle.unique_index_set_enums.specs.declared.ModeRead.{ModeRead}
-use Rattle.unique_index_set_enums.specs.declared.ModeRead.TheVariants.{Known, Unknown}
+use Rattle.unique_index_set_enums.specs.declared.UnknownMode.{UnknownMode}
 
 abbrev pub mode_number : ReleaseMode → ℕ
 mode_number Default = 0
 mode_number LockIfLastIndex = 1
 
 -- a lent number read as a mode
-unfoldable pub mode_read : ℕ → ModeRead
-mode_read m = cond (eqb m 0) (Known Default) (cond (eqb m 1) (Known LockIfLastIndex) Unknown)
+unfoldable pub mode_read : ℕ → Result ReleaseMode UnknownMode
+mode_read m = cond (eqb m 0) (Ok Default) (cond (eqb m 1) (Ok LockIfLastIndex) (Err (record { 0 = m })))
 
 abbrev pub state_value : ReleaseState → ℕ
 state_value Unlocked = 0

@@ -1,8 +1,8 @@
 -- The owners and generations of the robust set.
-use Rattle.std.specs.Prelude.{ℕ, ◌+◌, Bool, cond, eqb}
+use Rattle.std.specs.Prelude.{ℕ, ◌+◌, Bool, cond, eqb, Result, Ok, Err}
 use Rattle.unique_index_set_enums.specs.declared.OwnerId.{OwnerId}
-use Rattle.unique_index_set_enums.specs.declared.OwnerIdRead.{OwnerIdRead}
-use Rattle.unique_index_set_enums.specs.declared.OwnerIdRead.TheVariants.{Known, InvalidOwnerValue}
+use Rattle.unique_index_set_enums.specs.declared.OwnerIdNewError.{OwnerIdNewError}
+use Rattle.unique_index_set_enums.specs.declared.OwnerIdNewError.TheVariants.{InvalidOwnerValue}
 use Rattle.unique_index_set_enums.specs.declared.Generation.{Generation}
 use Rattle.unique_index_set_enums.specs.Kinds.{owner, generation}
 use Rattle.unique_index_set_enums.specs.Limits.{u64_max}
@@ -14,8 +14,8 @@ abbrev pub locked_generation : Generation
 locked_generation = generation u64_max
 
 -- OwnerId::new, robust_unique_index_set.rs 148 to 155
-unfoldable pub owner_read : ℕ → OwnerIdRead
-owner_read o = cond (eqb o u64_max) InvalidOwnerValue (Known (owner o))
+unfoldable pub owner_read : ℕ → Result OwnerId OwnerIdNewError
+owner_read o = cond (eqb o u64_max) (Err InvalidOwnerValue) (Ok (owner o))
 
 unfoldable pub is_empty : OwnerId → Bool
 is_empty o = eqb o.0 u64_max
