@@ -1,7 +1,7 @@
 -- The places of the plain set's calls: what each may remember (refusal 11), opened from a lent record and closed into one.
-use Rattle.std.specs.Prelude.{ℕ, Bool, true, false, cond, not, ltb, eqb}
-use Rattle.unique_index_set_enums.specs.declared.ModeRead.{ModeRead}
-use Rattle.unique_index_set_enums.specs.declared.ModeRead.TheVariants as mode
+use Rattle.std.specs.Prelude.{ℕ, Bool, true, false, cond, not, ltb, eqb, Option, Some, None, Result, Ok, Err}
+use Rattle.unique_index_set_enums.specs.declared.ReleaseMode.{ReleaseMode}
+use Rattle.unique_index_set_enums.specs.declared.UnknownMode.{UnknownMode}
 use Rattle.unique_index_set_enums.specs.Kinds.{index}
 use Rattle.unique_index_set_enums.specs.Limits.{lock_acquire}
 use Rattle.unique_index_set_enums.specs.Numbers.{mode_number, mode_read}
@@ -10,10 +10,6 @@ use Rattle.thread_records.specs.declared.Remembered.{Remembered}
 use Rattle.thread_records.specs.Records.{plain_call}
 use Rattle.plain_places.specs.declared.Place.{Place}
 use Rattle.plain_places.specs.declared.Place.TheVariants.{AcquireLook, AcquireRead, AcquireExchange, AcquireWrite, ReleaseLook, ReleaseWrite, ReleaseExchange, BorrowedLook, LockedLook}
-use Rattle.plain_places.specs.declared.PlaceRead.{PlaceRead}
-use Rattle.plain_places.specs.declared.PlaceRead.TheVariants.{Known, Unknown}
-use Rattle.plain_places.specs.declared.Opened.{Opened}
-use Rattle.plain_places.specs.declared.Opened.TheVariants.{At, Damaged}
 
 -- a remembered head below the capacity, the remembered borrowed count not locked (0 may be)
 unfoldable pub may_acquire : ℕ → ℕ → Bool
@@ -36,31 +32,31 @@ sound capacity BorrowedLook = true
 sound capacity LockedLook = true
 
 -- the plain set's places are 1 to 9: any other number, and a release with an unknown mode, name no place
-abbrev pub release_read_as : ModeRead → Remembered → PlaceRead
-release_read_as mode.Unknown c = Unknown
-release_read_as (mode.Known m) c =
-    cond (eqb c.place 5) (Known (ReleaseLook c.index m))
-    (cond (eqb c.place 6) (Known (ReleaseWrite c.index m c.seen))
-    (cond (eqb c.place 7) (Known (ReleaseExchange c.index m c.seen)) Unknown))
+abbrev pub release_read_as : Result ReleaseMode UnknownMode → Remembered → Option Place
+release_read_as (Err e) c = None
+release_read_as (Ok m) c =
+    cond (eqb c.place 5) (Some (ReleaseLook c.index m))
+    (cond (eqb c.place 6) (Some (ReleaseWrite c.index m c.seen))
+    (cond (eqb c.place 7) (Some (ReleaseExchange c.index m c.seen)) None))
 
-unfoldable pub release_read : Remembered → PlaceRead
+unfoldable pub release_read : Remembered → Option Place
 release_read c = release_read_as (mode_read c.mode) c
 
-unfoldable pub place_read : Remembered → PlaceRead
+unfoldable pub place_read : Remembered → Option Place
 place_read c =
-    cond (eqb c.place 1) (Known AcquireLook)
-    (cond (eqb c.place 2) (Known (AcquireRead c.seen))
-    (cond (eqb c.place 3) (Known (AcquireExchange c.seen c.value))
-    (cond (eqb c.place 4) (Known (AcquireWrite c.index))
-    (cond (eqb c.place 8) (Known BorrowedLook)
-    (cond (eqb c.place 9) (Known LockedLook) (release_read c))))))
+    cond (eqb c.place 1) (Some AcquireLook)
+    (cond (eqb c.place 2) (Some (AcquireRead c.seen))
+    (cond (eqb c.place 3) (Some (AcquireExchange c.seen c.value))
+    (cond (eqb c.place 4) (Some (AcquireWrite c.index))
+    (cond (eqb c.place 8) (Some BorrowedLook)
+    (cond (eqb c.place 9) (Some LockedLook) (release_read c))))))
 
 -- opened: the number read as a place, and what it remembers judged
-abbrev pub opened_from : ℕ → PlaceRead → Opened
-opened_from capacity Unknown = Damaged
-opened_from capacity (Known p) = cond (sound capacity p) (At p) Damaged
+abbrev pub opened_from : ℕ → Option Place → Option Place
+opened_from capacity None = None
+opened_from capacity (Some p) = cond (sound capacity p) (Some p) None
 
-unfoldable pub opened_at : ℕ → Remembered → Opened
+unfoldable pub opened_at : ℕ → Remembered → Option Place
 opened_at capacity c = opened_from capacity (place_read c)
 
 -- closed: what the place remembers, and 0 for all else

@@ -11,8 +11,7 @@ use Rattle.thread_records.specs.Records.{idle_record}
 use Rattle.plain_places.specs.declared.Place.{Place}
 use Rattle.plain_places.specs.declared.Place.TheVariants.{ReleaseLook, ReleaseExchange}
 use Rattle.plain_places.specs.Places.{may_release}
-use Rattle.plain_calls.specs.declared.marks.Mark.TheVariants.{As}
-use Rattle.plain_calls.specs.Marks.{release_mark}
+use Rattle.plain_calls.specs.Marks.{mark_as, release_mark}
 use Rattle.plain_calls.specs.Resumes.{release_looked}
 use Rattle.unique_index_set.specs.Custodies.{marked}
 use Rattle.unique_index_set.specs.Steps.{Shared, saw_at, shared_after, advanced}
@@ -25,7 +24,7 @@ pub record HeldAgain (who : RecordNumber) (i : Index) (p : Place) (list : OwnerL
   pub word : (advanced who p list s).shared.set.head ≡ s.set.head
   pub capacity : (advanced who p list s).shared.set.capacity ≡ s.set.capacity
   pub slots : (advanced who p list s).shared.slots ≡ s.slots
-  pub held : (advanced who p list s).shared.custody ≡ marked (As i (Held who)) s.custody
+  pub held : (advanced who p list s).shared.custody ≡ marked (mark_as i (Held who)) s.custody
 
 -- at a release's look that finds borrowed 0 or locked
 pub look_holds : (who : RecordNumber) (i : Index) (m : ReleaseMode) (list : OwnerList) (s : Shared) → may_release s.set.head ≡ false

@@ -1,9 +1,10 @@
 -- One record run alone: an acquire ends within 5 further steps from any place, a release within 4, the two looks within 1. Assumes
 -- nothing.
 use Rattle.std.proofs.Common.{◌≡◌, ℕ, zero, suc, ◌+◌, ◌≤◌, Bool, false, cond, eqb, sym, refl, subst, le_trans, arith, lit≤}
+use Rattle.std.specs.Prelude.{Ok}
+use Rattle.std.specs.declared.ops.ControlFlow.TheVariants.{Continue}
 use Rattle.unique_index_set_enums.specs.declared.RecordNumber.{RecordNumber}
-use Rattle.unique_index_set_enums.proofs.Choice.{choose}
-use Rattle.calls.specs.declared.Verdict.TheVariants.{Accepted}
+use Rattle.std.proofs.lemmas.Bool.{cond_both}
 use Rattle.calls.specs.Reports.{goes_on}
 use Rattle.calls.specs.Runs.{Run, run_from}
 use Rattle.thread_records.specs.declared.Record.{Record}
@@ -11,14 +12,13 @@ use Rattle.thread_records.specs.Effects.{Effect}
 use Rattle.thread_records.specs.Drains.{going, begun}
 use Rattle.plain_places.specs.declared.Place.{Place}
 use Rattle.plain_places.specs.declared.Place.TheVariants.{AcquireLook, AcquireRead, AcquireExchange, AcquireWrite, ReleaseLook, ReleaseWrite, ReleaseExchange, BorrowedLook, LockedLook}
-use Rattle.plain_calls.specs.declared.resumes.Next.TheVariants.{Going}
 use Rattle.unique_index_set.specs.Steps.{Shared, next_at, shared_after, step_judged, step_of}
 use Rattle.unique_index_set.specs.Drains.{again, drain_of}
 use Rattle.unique_index_set.proofs.Stays.{Ready, further, nearer, going_sound, ready_sound}
 use Rattle.unique_index_set.proofs.Refused.{after, ready_or}
 
 either : (b : Bool) (x y : ℕ) (E : ℕ → Type 0) → E x → E y → E (cond b x y)
-either b x y E p q = choose E b x y (λ _. p) (λ _. q)
+either b x y E p q = cond_both b x y E (λ _. p) (λ _. q)
 
 further_some : (p : Place) (w : ℕ) → 1 ≤ further p w
 further_some AcquireLook w = lit≤ tt
@@ -74,13 +74,13 @@ run_over records who (suc b) n e p r h =
     ready_or records who s t p r (Over (n + k) (turn records who b n (step_of records who s t)))
     (λ q g i z.
     let f = (going_sound _ _ _ (next_at p s) q g (nearer p s (ready_sound records who s t p r))).1 in
-    let o = run_over records who b (n + 1) (after (Going q) who p s t) q z (omega (arith, f)) in
+    let o = run_over records who b (n + 1) (after (Continue q) who p s t) q z (omega (arith, f)) in
     subst (λ x. Over (n + k) (turn records who b n x)) (sym i) (record { answered = o.answered; within = omega (arith, o.within, f) }))
     (λ a i.
     let f = further_some p s.set.head in
     subst (λ x. Over (n + k) (turn records who b n x)) (sym i) (record { answered = refl; within = omega (arith, f) }))
 
-drain_accepted : (records : ℕ) (who : RecordNumber) (b : ℕ) (s : Shared) (t : Record) → step_judged records who s t ≡ Accepted
+drain_accepted : (records : ℕ) (who : RecordNumber) (b : ℕ) (s : Shared) (t : Record) → step_judged records who s t ≡ Ok tt
     → drain_of records who b s t ≡ run_from (again records who) going b 0 (begun s t)
 unfolding drain_of
 drain_accepted records who b s t e = rw e refl

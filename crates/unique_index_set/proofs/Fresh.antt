@@ -1,7 +1,7 @@
 -- What an accepted setup leaves: slot i holds i + 1 up to the capacity, custody is free below it, entries beyond are as they were.
 -- Assumes nothing.
 use Rattle.std.proofs.Common.{◌≡◌, ℕ, ◌+◌, ◌<◌, ◌≤◌, length, get_or, refl, arith}
-use Rattle.calls.specs.declared.Verdict.TheVariants.{Accepted}
+use Rattle.std.specs.Prelude.{Ok}
 use Rattle.thread_records.specs.declared.Record.{Record}
 use Rattle.thread_records.proofs.Filled.{filled-length, filled_below, filled_beyond}
 use Rattle.unique_index_set.specs.Steps.{Shared}
@@ -30,7 +30,7 @@ set_fresh capacity s l k = record {
   custody_beyond = λ i h. filled_beyond free_entry capacity i s.custody h;
 }
 
-pub setup_fresh : (records capacity : ℕ) (s : Shared) (t : Record) → setup_judged records capacity s ≡ Accepted → Fresh capacity s (setup_of records capacity s t).shared
+pub setup_fresh : (records capacity : ℕ) (s : Shared) (t : Record) → setup_judged records capacity s ≡ Ok tt → Fresh capacity s (setup_of records capacity s t).shared
 unfolding setup_of
 setup_fresh records capacity s t e =
     let r = setup_roomy records capacity (length s.slots) (length s.custody) e in

@@ -1,11 +1,14 @@
 -- The numbers that each call of the plain set can come back with, by the scope's own numbers. Assumes nothing.
 use Rattle.std.proofs.Common.{◌≡◌, ℕ, true, false, eqb, ltb, leb, List, [], ◌∷◌, length, refl}
+use Rattle.std.specs.Prelude.{Option, Some, None}
+use Rattle.std.specs.declared.ops.ControlFlow.{ControlFlow}
+use Rattle.std.specs.declared.ops.ControlFlow.TheVariants.{Continue, Break}
 use Rattle.unique_index_set_enums.specs.declared.Index.{Index}
 use Rattle.unique_index_set_enums.specs.declared.RecordNumber.{RecordNumber}
 use Rattle.unique_index_set_enums.specs.declared.ReleaseMode.{ReleaseMode}
 use Rattle.unique_index_set_enums.specs.declared.UniqueIndexCreationError.TheVariants.{ProvidedCapacityGreaterThanMaxCapacity, ProvidedCapacityIsZero}
 use Rattle.unique_index_set_enums.specs.Limits.{lock_acquire, plain_capacity_limit}
-use Rattle.unique_index_set_enums.proofs.Choice.{choose}
+use Rattle.std.proofs.lemmas.Bool.{cond_both}
 use Rattle.calls.specs.declared.Answer.{Answer}
 use Rattle.calls.specs.declared.Call.{Call}
 use Rattle.calls.specs.declared.Call.TheVariants as call
@@ -23,14 +26,9 @@ use Rattle.thread_records.proofs.Drains.{drain_among}
 use Rattle.head_details.specs.Word.{head_of, borrowed_of}
 use Rattle.plain_places.specs.declared.Place.{Place}
 use Rattle.plain_places.specs.declared.Place.TheVariants.{AcquireLook, AcquireRead, AcquireExchange, AcquireWrite, ReleaseLook, ReleaseWrite, ReleaseExchange, BorrowedLook, LockedLook}
-use Rattle.plain_places.specs.declared.Opened.{Opened}
-use Rattle.plain_places.specs.declared.Opened.TheVariants.{At, Damaged}
 use Rattle.plain_places.specs.Places.{may_release}
 use Rattle.plain_calls.specs.declared.resumes.Saw.{Saw}
-use Rattle.plain_calls.specs.declared.resumes.Next.{Next}
-use Rattle.plain_calls.specs.declared.resumes.Next.TheVariants.{Going, Answered}
 use Rattle.plain_calls.specs.declared.asks.Asked.{Asked}
-use Rattle.plain_calls.specs.declared.asks.Asked.TheVariants as asked
 use Rattle.plain_calls.specs.Resumes.{acquire_looked, release_looked, resumed_at}
 use Rattle.unique_index_set.specs.Steps.{Shared, report_after, saw_at, advanced, next_at, too_short, is_damaged, opened_in, step_verdict, step_judged, stepped_from, step_of}
 use Rattle.plain_calls.specs.Asks.{asked_of}
@@ -50,7 +48,7 @@ setup_numbers_lem records capacity s t =
 abbrev pub start_numbers : List ℕ
 start_numbers = 3 ∷ 4 ∷ 10 ∷ 9 ∷ 13 ∷ 7 ∷ 8 ∷ []
 
-start_failed : (records : ℕ) (who : RecordNumber) (capacity slots : ℕ) (custody : List ℕ) (a : Asked) (t : Record) → FailedAmong start_numbers (start_tests records who capacity slots custody a t)
+start_failed : (records : ℕ) (who : RecordNumber) (capacity slots : ℕ) (custody : List ℕ) (a : Option Asked) (t : Record) → FailedAmong start_numbers (start_tests records who capacity slots custody a t)
 start_failed records who capacity slots custody a t (Capacity ProvidedCapacityGreaterThanMaxCapacity) e = refl
 start_failed records who capacity slots custody a t (Capacity ProvidedCapacityIsZero) e = refl
 start_failed records who capacity slots custody a t BufferTooShort e = refl
@@ -61,12 +59,9 @@ start_failed records who capacity slots custody a t OwnerIsEmpty e = e
 start_failed records who capacity slots custody a t IndexOutOfRange e = refl
 start_failed records who capacity slots custody a t IndexNotHeld e = refl
 
-started_among : (a : Asked) (who : RecordNumber) (s : Shared) (t : Record) → RefusedAmong start_numbers (started_from a who s t)
-started_among asked.Acquire who s t = taken_among start_numbers (started_from asked.Acquire who s t) refl
-started_among (asked.Release i m) who s t = taken_among start_numbers (started_from (asked.Release i m) who s t) refl
-started_among asked.BorrowedIndices who s t = taken_among start_numbers (started_from asked.BorrowedIndices who s t) refl
-started_among asked.IsLocked who s t = taken_among start_numbers (started_from asked.IsLocked who s t) refl
-started_among asked.NotKnown who s t = unchanged-among start_numbers s t NotKnown refl
+started_among : (a : Option Asked) (who : RecordNumber) (s : Shared) (t : Record) → RefusedAmong start_numbers (started_from a who s t)
+started_among (Some a) who s t = taken_among start_numbers (started_from (Some a) who s t) refl
+started_among None who s t = unchanged-among start_numbers s t NotKnown refl
 
 pub start_numbers_lem : (records : ℕ) (who : RecordNumber) (request : Request) (s : Shared) (t : Record) → RefusedAmong start_numbers (start_of records who request s t)
 unfolding start_of start_verdict
@@ -75,10 +70,10 @@ start_numbers_lem records who request s t =
     (start_tests records who s.set.capacity (length s.slots) s.custody (asked_of request) t) s t (started_from (asked_of request) who s t) refl
     (start_failed records who s.set.capacity (length s.slots) s.custody (asked_of request) t) (started_among (asked_of request) who s t)
 
-stepped_among : (o : Opened) (who : RecordNumber) (s : Shared) (t : Record) → RefusedAmong step_numbers (stepped_from o who s t)
+stepped_among : (o : Option Place) (who : RecordNumber) (s : Shared) (t : Record) → RefusedAmong step_numbers (stepped_from o who s t)
 unfolding advanced
-stepped_among (At p) who s t = taken_among step_numbers (advanced who p t.list s) (next_taken (next_at p s))
-stepped_among Damaged who s t = unchanged-among step_numbers s t RecordDamaged refl
+stepped_among (Some p) who s t = taken_among step_numbers (advanced who p t.list s) (next_taken (next_at p s))
+stepped_among None who s t = unchanged-among step_numbers s t RecordDamaged refl
 
 -- the tests of a step or a drain
 abbrev turn_tests : ℕ → RecordNumber → Shared → Record → Tests
@@ -120,34 +115,34 @@ answer_numbers call.Find = []
 answer_numbers call.Recover = []
 
 -- the call goes on as the same call, or answers with one of its numbers
-abbrev pub NextAmong : Call → Next → Type 0
-NextAmong c (Going q) = call_at q ≡ c
-NextAmong c (Answered a) = among (answer_number a) (answer_numbers c) ≡ true
+abbrev pub NextAmong : Call → ControlFlow Answer Place → Type 0
+NextAmong c (Continue q) = call_at q ≡ c
+NextAmong c (Break a) = among (answer_number a) (answer_numbers c) ≡ true
 
 acquire_among : (capacity w : ℕ) → NextAmong call.Acquire (acquire_looked capacity w)
 unfolding acquire_looked
 acquire_among capacity w =
-    choose (NextAmong call.Acquire) (leb capacity (head_of w)) _ _ (λ _. refl) (λ _.
-    choose (NextAmong call.Acquire) (eqb (borrowed_of w) lock_acquire) _ _ (λ _. refl) (λ _. refl))
+    cond_both (leb capacity (head_of w)) _ _ (NextAmong call.Acquire) (λ _. refl) (λ _.
+    cond_both (eqb (borrowed_of w) lock_acquire) _ _ (NextAmong call.Acquire) (λ _. refl) (λ _. refl))
 
 release_among : (i : Index) (m : ReleaseMode) (w : ℕ) → NextAmong call.Release (release_looked i m w)
 unfolding release_looked
-release_among i m w = choose (NextAmong call.Release) (may_release w) _ _ (λ _. refl) (λ _. refl)
+release_among i m w = cond_both (may_release w) _ _ (NextAmong call.Release) (λ _. refl) (λ _. refl)
 
 pub next_among : (capacity : ℕ) (p : Place) (saw : Saw) → NextAmong (call_at p) (resumed_at capacity p saw)
 next_among capacity AcquireLook saw = acquire_among capacity saw.word
 next_among capacity (AcquireRead seen) saw = refl
-next_among capacity (AcquireExchange seen value) saw = choose (NextAmong call.Acquire) saw.won _ _ (λ _. refl) (λ _. acquire_among capacity saw.word)
+next_among capacity (AcquireExchange seen value) saw = cond_both saw.won _ _ (NextAmong call.Acquire) (λ _. refl) (λ _. acquire_among capacity saw.word)
 next_among capacity (AcquireWrite i) saw = refl
 next_among capacity (ReleaseLook i m) saw = release_among i m saw.word
 next_among capacity (ReleaseWrite i m seen) saw = refl
-next_among capacity (ReleaseExchange i m seen) saw = choose (NextAmong call.Release) saw.won _ _ (λ _. refl) (λ _. release_among i m saw.word)
+next_among capacity (ReleaseExchange i m seen) saw = cond_both saw.won _ _ (NextAmong call.Release) (λ _. refl) (λ _. release_among i m saw.word)
 next_among capacity BorrowedLook saw = refl
 next_among capacity LockedLook saw = refl
 
-answered_among : (c : Call) (n : Next) (a : Answer) → NextAmong c n → (report_after n).progress ≡ progress.Answered a → among (answer_number a) (answer_numbers c) ≡ true
-answered_among c (Going q) a e p = cc
-answered_among c (Answered b) a e p = rw (← same_answer b a p) e
+answered_among : (c : Call) (n : ControlFlow Answer Place) (a : Answer) → NextAmong c n → (report_after n).progress ≡ progress.Answered a → among (answer_number a) (answer_numbers c) ≡ true
+answered_among c (Continue q) a e p = cc
+answered_among c (Break b) a e p = rw (← same_answer b a p) e
 
 -- what a ready record's step answers is one of its call's numbers
 pub step_answers : (records : ℕ) (who : RecordNumber) (s : Shared) (t : Record) (p : Place) (a : Answer) → Ready records who s t p

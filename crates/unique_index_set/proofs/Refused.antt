@@ -1,11 +1,13 @@
 -- What is refused changes nothing; a step or start that goes on leaves a record whose next step is accepted; an answer leaves the idle
 -- record beside its list. Assumes nothing.
 use Rattle.std.proofs.Common.{◌≡◌, ℕ, true, sym, refl, ◌∙◌, subst}
+use Rattle.std.specs.Prelude.{Option, Some, None, Ok}
+use Rattle.std.specs.declared.ops.ControlFlow.{ControlFlow}
+use Rattle.std.specs.declared.ops.ControlFlow.TheVariants.{Continue, Break}
 use Rattle.unique_index_set_enums.specs.declared.RecordNumber.{RecordNumber}
 use Rattle.calls.specs.declared.Answer.{Answer}
 use Rattle.calls.specs.declared.Refusal.TheVariants as refusal
 use Rattle.calls.specs.declared.Request.{Request}
-use Rattle.calls.specs.declared.Verdict.TheVariants.{Accepted}
 use Rattle.thread_records.specs.declared.OwnerList.{OwnerList}
 use Rattle.thread_records.specs.declared.Record.{Record}
 use Rattle.thread_records.specs.Records.{live_record}
@@ -15,44 +17,37 @@ use Rattle.thread_records.proofs.Leaves.{Leaves, going_leaves, answered_leaves, 
 use Rattle.thread_records.proofs.Drains.{Keeps, keeps, DrainHarmless, drain_harmless}
 use Rattle.plain_places.specs.declared.Place.{Place}
 use Rattle.plain_places.specs.declared.Place.TheVariants.{AcquireLook, ReleaseLook, BorrowedLook, LockedLook}
-use Rattle.plain_places.specs.declared.Opened.{Opened}
-use Rattle.plain_places.specs.declared.Opened.TheVariants.{At, Damaged}
 use Rattle.plain_places.specs.Places.{sound, closed_at}
 use Rattle.custody.specs.declared.Custody.TheVariants.{Giving}
-use Rattle.plain_calls.specs.declared.resumes.Next.{Next}
-use Rattle.plain_calls.specs.declared.resumes.Next.TheVariants.{Going, Answered}
 use Rattle.plain_calls.specs.declared.marks.Mark.{Mark}
-use Rattle.plain_calls.specs.declared.marks.Mark.TheVariants.{Nothing, As}
 use Rattle.plain_calls.specs.declared.asks.Asked.{Asked}
-use Rattle.plain_calls.specs.declared.asks.Asked.TheVariants.{Acquire, Release, BorrowedIndices, IsLocked, NotKnown}
+use Rattle.plain_calls.specs.declared.asks.Asked.TheVariants.{Acquire, Release, BorrowedIndices, IsLocked}
 use Rattle.unique_index_set.specs.Custodies.{marked}
 use Rattle.unique_index_set.specs.Steps.{Shared, shared, leaves, thread_after, report_after, next_at, shared_after, advanced, opened_in, step_judged, stepped_from, step_of}
 use Rattle.plain_calls.specs.Asks.{asked_of}
+use Rattle.plain_calls.specs.Marks.{mark_as}
 use Rattle.unique_index_set.specs.Starts.{start_judged, entered_at, started_from, start_of}
 use Rattle.unique_index_set.specs.Setups.{set_fresh, setup_judged, setup_of}
 use Rattle.unique_index_set.specs.Drains.{again, drain_of}
 use Rattle.unique_index_set.proofs.Accepted.{release_in}
 use Rattle.unique_index_set.proofs.Stays.{Ready, stepped, accepted_ready, Serves, start_serves, marked_serves, ready, stays}
 
-pub next_taken : (n : Next) → taken (report_after n).progress ≡ true
-next_taken (Going p) = refl
-next_taken (Answered a) = refl
+pub next_taken : (n : ControlFlow Answer Place) → taken (report_after n).progress ≡ true
+next_taken (Continue p) = refl
+next_taken (Break a) = refl
 
-opened_harmless : (o : Opened) (who : RecordNumber) (s : Shared) (t : Record) → Harmless s t (stepped_from o who s t)
+opened_harmless : (o : Option Place) (who : RecordNumber) (s : Shared) (t : Record) → Harmless s t (stepped_from o who s t)
 unfolding advanced
-opened_harmless (At p) who s t = taken_harmless s t _ (next_taken (next_at p s))
-opened_harmless Damaged who s t = unchanged_harmless s t refusal.RecordDamaged
+opened_harmless (Some p) who s t = taken_harmless s t _ (next_taken (next_at p s))
+opened_harmless None who s t = unchanged_harmless s t refusal.RecordDamaged
 
 pub step_harmless : (records : ℕ) (who : RecordNumber) (s : Shared) (t : Record) → Harmless s t (step_of records who s t)
 unfolding step_of
 step_harmless records who s t = judged_harmless (step_judged records who s t) s t _ (opened_harmless (opened_in s t) who s t)
 
-asked_harmless : (a : Asked) (who : RecordNumber) (s : Shared) (t : Record) → Harmless s t (started_from a who s t)
-asked_harmless Acquire who s t = taken_harmless s t _ refl
-asked_harmless (Release i m) who s t = taken_harmless s t _ refl
-asked_harmless BorrowedIndices who s t = taken_harmless s t _ refl
-asked_harmless IsLocked who s t = taken_harmless s t _ refl
-asked_harmless NotKnown who s t = unchanged_harmless s t refusal.NotKnown
+asked_harmless : (a : Option Asked) (who : RecordNumber) (s : Shared) (t : Record) → Harmless s t (started_from a who s t)
+asked_harmless (Some a) who s t = taken_harmless s t _ refl
+asked_harmless None who s t = unchanged_harmless s t refusal.NotKnown
 
 pub start_harmless : (records : ℕ) (who : RecordNumber) (request : Request) (s : Shared) (t : Record) → Harmless s t (start_of records who request s t)
 unfolding start_of
@@ -62,32 +57,32 @@ pub setup_harmless : (records capacity : ℕ) (s : Shared) (t : Record) → Harm
 unfolding setup_of
 setup_harmless records capacity s t = judged_harmless (setup_judged records capacity s) s t _ (taken_harmless s t (set_fresh capacity s) refl)
 
-next_or : (n : Next) (E : Type 0) → ((q : Place) → n ≡ Going q → E) → ((a : Answer) → n ≡ Answered a → E) → E
-next_or (Going q) E f g = f q refl
-next_or (Answered a) E f g = g a refl
+next_or : (n : ControlFlow Answer Place) (E : Type 0) → ((q : Place) → n ≡ Continue q → E) → ((a : Answer) → n ≡ Break a → E) → E
+next_or (Continue q) E f g = f q refl
+next_or (Break a) E f g = g a refl
 
 -- where a ready record's step goes on, and where it answers
-abbrev pub after : Next → RecordNumber → Place → Shared → Record → Effect Shared
+abbrev pub after : ControlFlow Answer Place → RecordNumber → Place → Shared → Record → Effect Shared
 after n who p s t = record { shared = shared_after who p s; thread = thread_after n t.list; report = report_after n }
 
-stepped_next : (records : ℕ) (who : RecordNumber) (s : Shared) (t : Record) (p : Place) (n : Next) → Ready records who s t p → next_at p s ≡ n
+stepped_next : (records : ℕ) (who : RecordNumber) (s : Shared) (t : Record) (p : Place) (n : ControlFlow Answer Place) → Ready records who s t p → next_at p s ≡ n
     → step_of records who s t ≡ after n who p s t
 unfolding advanced
 stepped_next records who s t p n r e = stepped records who s t p r ∙ rw e refl
 
 -- the next step of a ready record goes on ready, or answers and leaves it idle
 pub ready_or : (records : ℕ) (who : RecordNumber) (s : Shared) (t : Record) (p : Place) → Ready records who s t p → (E : Type 0)
-    → ((q : Place) → next_at p s ≡ Going q → step_of records who s t ≡ after (Going q) who p s t → Ready records who (shared_after who p s) (live_record (closed_at q) t.list) q → E)
-    → ((a : Answer) → step_of records who s t ≡ after (Answered a) who p s t → E)
+    → ((q : Place) → next_at p s ≡ Continue q → step_of records who s t ≡ after (Continue q) who p s t → Ready records who (shared_after who p s) (live_record (closed_at q) t.list) q → E)
+    → ((a : Answer) → step_of records who s t ≡ after (Break a) who p s t → E)
     → E
 ready_or records who s t p r E f g =
     next_or (next_at p s) E
-    (λ q n. f q n (stepped_next records who s t p (Going q) r n) (stays records who s t p q r n))
-    (λ a n. g a (stepped_next records who s t p (Answered a) r n))
+    (λ q n. f q n (stepped_next records who s t p (Continue q) r n) (stays records who s t p q r n))
+    (λ a n. g a (stepped_next records who s t p (Break a) r n))
 
 -- the record's next step is accepted: so it opens
 abbrev pub Opens : ℕ → RecordNumber → Shared → Record → Type 0
-Opens records who s t = step_judged records who s t ≡ Accepted
+Opens records who s t = step_judged records who s t ≡ Ok tt
 
 -- no answer of a plain set touches the list
 abbrev pub same_list : Answer → OwnerList → OwnerList
@@ -99,8 +94,8 @@ StepLeaves records who t e = Leaves (Opens records who) same_list t e
 ready_leaves : (records : ℕ) (who : RecordNumber) (s : Shared) (t : Record) (p : Place) → Ready records who s t p → StepLeaves records who t (step_of records who s t)
 ready_leaves records who s t p r =
     ready_or records who s t p r (StepLeaves records who t (step_of records who s t))
-    (λ q n i k. subst (StepLeaves records who t) (sym i) (going_leaves (Opens records who) same_list t (after (Going q) who p s t) refl k.judged))
-    (λ a i. subst (StepLeaves records who t) (sym i) (answered_leaves (Opens records who) same_list t (after (Answered a) who p s t) a refl refl))
+    (λ q n i k. subst (StepLeaves records who t) (sym i) (going_leaves (Opens records who) same_list t (after (Continue q) who p s t) refl k.judged))
+    (λ a i. subst (StepLeaves records who t) (sym i) (answered_leaves (Opens records who) same_list t (after (Break a) who p s t) a refl refl))
 
 opened_leaves : (records : ℕ) (who : RecordNumber) (s : Shared) (t : Record) (p : Place) → Ready records who s t p → StepLeaves records who t (stepped_from (opened_in s t) who s t)
 opened_leaves records who s t p r = rw r.opened (subst (StepLeaves records who t) (stepped records who s t p r) (ready_leaves records who s t p r))
@@ -112,19 +107,19 @@ step_leaves records who s t =
     (λ e. accepted_ready records who s t e (StepLeaves records who t (stepped_from (opened_in s t) who s t)) (λ p r. opened_leaves records who s t p r))
 
 -- an accepted start leaves a record that opens at the call's first place; what a release's start marks keeps the buffers' lengths
-entry_leaves : (records : ℕ) (who : RecordNumber) (s : Shared) (t : Record) (p : Place) (m : Mark) → Serves records who s → sound s.set.capacity p ≡ true
+entry_leaves : (records : ℕ) (who : RecordNumber) (s : Shared) (t : Record) (p : Place) (m : Option Mark) → Serves records who s → sound s.set.capacity p ≡ true
     → StepLeaves records who t (leaves (entered_at p s.set t) s.slots (marked m s.custody))
 entry_leaves records who s t p m l e =
     going_leaves (Opens records who) same_list t (leaves (entered_at p s.set t) s.slots (marked m s.custody)) refl
     (ready records who (shared s.set s.slots (marked m s.custody)) p t.list (marked_serves records who s m l) e).judged
 
-started_leaves : (records : ℕ) (who : RecordNumber) (a : Asked) (s : Shared) (t : Record) → start_judged records who a s t ≡ Accepted → StepLeaves records who t (started_from a who s t)
-started_leaves records who Acquire s t e = entry_leaves records who s t AcquireLook Nothing (start_serves records who Acquire s t e) refl
-started_leaves records who (Release i m) s t e =
-    entry_leaves records who s t (ReleaseLook i m) (As i (Giving who who)) (start_serves records who (Release i m) s t e) (release_in records who i m s t e)
-started_leaves records who BorrowedIndices s t e = entry_leaves records who s t BorrowedLook Nothing (start_serves records who BorrowedIndices s t e) refl
-started_leaves records who IsLocked s t e = entry_leaves records who s t LockedLook Nothing (start_serves records who IsLocked s t e) refl
-started_leaves records who NotKnown s t e = record { opens = λ q. cc; idle = λ a q. cc }
+started_leaves : (records : ℕ) (who : RecordNumber) (a : Option Asked) (s : Shared) (t : Record) → start_judged records who a s t ≡ Ok tt → StepLeaves records who t (started_from a who s t)
+started_leaves records who (Some Acquire) s t e = entry_leaves records who s t AcquireLook None (start_serves records who (Some Acquire) s t e) refl
+started_leaves records who (Some (Release i m)) s t e =
+    entry_leaves records who s t (ReleaseLook i m) (mark_as i (Giving who who)) (start_serves records who (Some (Release i m)) s t e) (release_in records who i m s t e)
+started_leaves records who (Some BorrowedIndices) s t e = entry_leaves records who s t BorrowedLook None (start_serves records who (Some BorrowedIndices) s t e) refl
+started_leaves records who (Some IsLocked) s t e = entry_leaves records who s t LockedLook None (start_serves records who (Some IsLocked) s t e) refl
+started_leaves records who None s t e = record { opens = λ q. cc; idle = λ a q. cc }
 
 pub start_leaves : (records : ℕ) (who : RecordNumber) (request : Request) (s : Shared) (t : Record) → StepLeaves records who t (start_of records who request s t)
 unfolding start_of
@@ -132,7 +127,7 @@ start_leaves records who request s t =
     judged_leaves (Opens records who) same_list t (start_judged records who (asked_of request) s t) s (started_from (asked_of request) who s t)
     (λ e. started_leaves records who (asked_of request) s t e)
 
-step_taken : (records : ℕ) (who : RecordNumber) (s : Shared) (t : Record) → step_judged records who s t ≡ Accepted → taken (step_of records who s t).report.progress ≡ true
+step_taken : (records : ℕ) (who : RecordNumber) (s : Shared) (t : Record) → step_judged records who s t ≡ Ok tt → taken (step_of records who s t).report.progress ≡ true
 unfolding advanced
 step_taken records who s t e =
     accepted_ready records who s t e (taken (step_of records who s t).report.progress ≡ true)

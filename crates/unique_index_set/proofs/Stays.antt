@@ -1,14 +1,17 @@
 -- A step that is accepted is the advance from the place at which its record opens, and leaves a record that is idle or opens again:
 -- at a sound place that takes fewer further steps, where the record is alone. Assumes nothing.
 use Rattle.std.proofs.Common.{◌≡◌, ℕ, ◌<◌, Bool, true, false, cond, eqb, ltb, leb, List, length, refl, lit<, length-set, lt-ltb, eq-eqb, leb-false}
+use Rattle.std.specs.Prelude.{Option, Some, None, Ok}
+use Rattle.std.specs.declared.ops.ControlFlow.{ControlFlow}
+use Rattle.std.specs.declared.ops.ControlFlow.TheVariants.{Continue, Break}
 use Rattle.unique_index_set_enums.specs.declared.Index.{Index}
 use Rattle.unique_index_set_enums.specs.declared.RecordNumber.{RecordNumber}
 use Rattle.unique_index_set_enums.specs.declared.ReleaseMode.{ReleaseMode}
 use Rattle.unique_index_set_enums.specs.Kinds.{index}
 use Rattle.unique_index_set_enums.specs.Limits.{lock_acquire, plain_capacity_limit}
-use Rattle.unique_index_set_enums.proofs.Choice.{choose, both_true}
+use Rattle.std.proofs.lemmas.Bool.{cond_both}
+use Rattle.unique_index_set_enums.proofs.Choice.{both_true}
 use Rattle.calls.specs.declared.Answer.{Answer}
-use Rattle.calls.specs.declared.Verdict.TheVariants.{Accepted}
 use Rattle.calls.proofs.Order.{accepted}
 use Rattle.thread_records.specs.declared.OwnerList.{OwnerList}
 use Rattle.thread_records.specs.declared.Record.{Record}
@@ -17,16 +20,11 @@ use Rattle.thread_records.proofs.Lent.{Lent, turn_lent, start_lent, lent_accepte
 use Rattle.head_details.specs.Word.{head_of, borrowed_of}
 use Rattle.plain_places.specs.declared.Place.{Place}
 use Rattle.plain_places.specs.declared.Place.TheVariants.{AcquireLook, AcquireRead, AcquireExchange, AcquireWrite, ReleaseLook, ReleaseWrite, ReleaseExchange, BorrowedLook, LockedLook}
-use Rattle.plain_places.specs.declared.Opened.{Opened}
-use Rattle.plain_places.specs.declared.Opened.TheVariants.{At, Damaged}
 use Rattle.plain_places.specs.Places.{may_acquire, may_release, sound, closed_at}
 use Rattle.plain_places.proofs.Laws.{opened_closed, opened_sound}
 use Rattle.unique_index_set.specs.declared.accesses.Access.{Access}
 use Rattle.unique_index_set.specs.declared.accesses.Access.TheVariants.{Look, Exchange, Read, Write}
-use Rattle.plain_calls.specs.declared.resumes.Next.{Next}
-use Rattle.plain_calls.specs.declared.resumes.Next.TheVariants.{Going, Answered}
 use Rattle.plain_calls.specs.declared.marks.Mark.{Mark}
-use Rattle.plain_calls.specs.declared.marks.Mark.TheVariants.{Nothing, As}
 use Rattle.unique_index_set.specs.Accesses.{access_at, word_after, slots_after}
 use Rattle.plain_calls.specs.Resumes.{acquire_looked, release_looked}
 use Rattle.unique_index_set.specs.Custodies.{marked}
@@ -49,30 +47,30 @@ further BorrowedLook w = 1
 further LockedLook w = 1
 
 -- the call is over, or goes on at a sound place from which it takes fewer than k steps
-abbrev pub Nearer : ℕ → ℕ → ℕ → Next → Type 0
-Nearer capacity k w (Answered a) = Unit {0}
-Nearer capacity k w (Going p) = (sound capacity p ≡ true) × (further p w < k)
+abbrev pub Nearer : ℕ → ℕ → ℕ → ControlFlow Answer Place → Type 0
+Nearer capacity k w (Break a) = Unit {0}
+Nearer capacity k w (Continue p) = (sound capacity p ≡ true) × (further p w < k)
 
 acquire_looked_lem : (capacity w k : ℕ) → 3 < k → Nearer capacity k w (acquire_looked capacity w)
 unfolding acquire_looked may_acquire
 acquire_looked_lem capacity w k h =
-    choose (Nearer capacity k w) (leb capacity (head_of w)) _ _ (λ t. tt) (λ f.
-    choose (Nearer capacity k w) (eqb (borrowed_of w) lock_acquire) _ _ (λ t. tt) (λ g.
+    cond_both (leb capacity (head_of w)) _ _ (Nearer capacity k w) (λ t. tt) (λ f.
+    cond_both (eqb (borrowed_of w) lock_acquire) _ _ (Nearer capacity k w) (λ t. tt) (λ g.
     (simp (lt-ltb _ _ (leb-false capacity (head_of w) f), g), rw (eq-eqb w w refl) h)))
 
 release_looked_lem : (capacity w k : ℕ) (i : Index) (m : ReleaseMode) → ltb i.0 capacity ≡ true → 2 < k → Nearer capacity k w (release_looked i m w)
 unfolding release_looked
 release_looked_lem capacity w k i m l h =
-    choose (Nearer capacity k w) (may_release w) _ _ (λ t. (simp (l, t), rw (eq-eqb w w refl) h)) (λ f. tt)
+    cond_both (may_release w) _ _ (Nearer capacity k w) (λ t. (simp (l, t), rw (eq-eqb w w refl) h)) (λ f. tt)
 
 -- an exchange: won, or a look at the word found
 acquire_exchanged : (capacity w new head : ℕ) (b : Bool) → head < capacity
-    → Nearer capacity (cond b 2 4) (cond b new w) (cond b (Going (AcquireWrite (index head))) (acquire_looked capacity w))
+    → Nearer capacity (cond b 2 4) (cond b new w) (cond b (Continue (AcquireWrite (index head))) (acquire_looked capacity w))
 acquire_exchanged capacity w new head true l = (lt-ltb head capacity l, lit< tt)
 acquire_exchanged capacity w new head false l = acquire_looked_lem capacity w 4 (lit< tt)
 
 release_exchanged : (capacity w new : ℕ) (a : Answer) (i : Index) (m : ReleaseMode) (b : Bool) → ltb i.0 capacity ≡ true
-    → Nearer capacity (cond b 1 3) (cond b new w) (cond b (Answered a) (release_looked i m w))
+    → Nearer capacity (cond b 1 3) (cond b new w) (cond b (Break a) (release_looked i m w))
 release_exchanged capacity w new a i m true l = tt
 release_exchanged capacity w new a i m false l = release_looked_lem capacity w 3 i m l (lit< tt)
 
@@ -95,8 +93,8 @@ nearer LockedLook s e = tt
 
 -- the record's step is accepted, and its call opens at a place
 pub record Ready (records : ℕ) (who : RecordNumber) (s : Shared) (t : Record) (p : Place) : Type 0 where
-  pub judged : step_judged records who s t ≡ Accepted
-  pub opened : opened_in s t ≡ At p
+  pub judged : step_judged records who s t ≡ Ok tt
+  pub opened : opened_in s t ≡ Some p
 
 pub stepped : (records : ℕ) (who : RecordNumber) (s : Shared) (t : Record) (p : Place) → Ready records who s t p → step_of records who s t ≡ advanced who p t.list s
 unfolding step_of
@@ -105,12 +103,12 @@ stepped records who s t p r = rw r.judged (rw r.opened refl)
 pub ready_sound : (records : ℕ) (who : RecordNumber) (s : Shared) (t : Record) (p : Place) → Ready records who s t p → sound s.set.capacity p ≡ true
 ready_sound records who s t p r = opened_sound s.set.capacity t.call p r.opened
 
-opened_or : (o : Opened) → is_damaged o ≡ false → (E : Type 0) → ((p : Place) → o ≡ At p → E) → E
-opened_or (At p) e E f = f p refl
-opened_or Damaged e E f = f AcquireLook cc
+opened_or : (o : Option Place) → is_damaged o ≡ false → (E : Type 0) → ((p : Place) → o ≡ Some p → E) → E
+opened_or (Some p) e E f = f p refl
+opened_or None e E f = f AcquireLook cc
 
 -- what is accepted is ready at the place at which it opens
-pub accepted_ready : (records : ℕ) (who : RecordNumber) (s : Shared) (t : Record) → step_judged records who s t ≡ Accepted
+pub accepted_ready : (records : ℕ) (who : RecordNumber) (s : Shared) (t : Record) → step_judged records who s t ≡ Ok tt
     → (E : Type 0) → ((p : Place) → Ready records who s t p → E) → E
 unfolding step_verdict
 accepted_ready records who s t e E f =
@@ -124,9 +122,9 @@ slots_length (Exchange old new) slots = refl
 slots_length (Read i) slots = refl
 slots_length (Write i v) slots = simp length-set
 
-marked-length : (m : Mark) (custody : List ℕ) → length (marked m custody) ≡ length custody
-marked-length Nothing custody = refl
-marked-length (As i c) custody = simp length-set
+marked-length : (m : Option Mark) (custody : List ℕ) → length (marked m custody) ≡ length custody
+marked-length None custody = refl
+marked-length (Some m) custody = simp length-set
 
 not_idle : (p : Place) → eqb (closed_at p).place 0 ≡ false
 not_idle AcquireLook = refl
@@ -144,11 +142,11 @@ abbrev pub Serves : ℕ → RecordNumber → Shared → Type 0
 Serves records who s =
     Lent (ltb plain_capacity_limit s.set.capacity) (eqb s.set.capacity 0) (too_short records s.set.capacity (length s.slots) (length s.custody)) records who
 
-pub step_serves : (records : ℕ) (who : RecordNumber) (s : Shared) (t : Record) → step_judged records who s t ≡ Accepted → Serves records who s
+pub step_serves : (records : ℕ) (who : RecordNumber) (s : Shared) (t : Record) → step_judged records who s t ≡ Ok tt → Serves records who s
 step_serves records who s t e =
     turn_lent _ t records who refl (step_passed records who s.set.capacity (length s.slots) (length s.custody) (opened_in s t) t e)
 
-pub start_serves : (records : ℕ) (who : RecordNumber) (asked : Asked) (s : Shared) (t : Record) → start_judged records who asked s t ≡ Accepted → Serves records who s
+pub start_serves : (records : ℕ) (who : RecordNumber) (asked : Option Asked) (s : Shared) (t : Record) → start_judged records who asked s t ≡ Ok tt → Serves records who s
 unfolding start_verdict
 start_serves records who asked s t e =
     start_lent (start_tests records who s.set.capacity (length s.slots) s.custody asked t) t records who refl (accepted _ e)
@@ -165,14 +163,14 @@ stays_served : (records : ℕ) (who : RecordNumber) (s : Shared) (p : Place) →
 unfolding shared_after
 stays_served records who s p l = record { above = l.above; zero = l.zero; short = simp (slots_length, marked-length) l.short; here = l.here }
 
-pub marked_serves : (records : ℕ) (who : RecordNumber) (s : Shared) (m : Mark) → Serves records who s → Serves records who (shared s.set s.slots (marked m s.custody))
+pub marked_serves : (records : ℕ) (who : RecordNumber) (s : Shared) (m : Option Mark) → Serves records who s → Serves records who (shared s.set s.slots (marked m s.custody))
 marked_serves records who s m l = record { above = l.above; zero = l.zero; short = simp marked-length l.short; here = l.here }
 
-pub going_sound : (capacity k w : ℕ) (n : Next) (q : Place) → n ≡ Going q → Nearer capacity k w n → (sound capacity q ≡ true) × (further q w < k)
+pub going_sound : (capacity k w : ℕ) (n : ControlFlow Answer Place) (q : Place) → n ≡ Continue q → Nearer capacity k w n → (sound capacity q ≡ true) × (further q w < k)
 going_sound capacity k w n q e h = rw e at h
 
 -- a step that goes on leaves its record ready at the place it goes on to
-pub stays : (records : ℕ) (who : RecordNumber) (s : Shared) (t : Record) (p q : Place) → Ready records who s t p → next_at p s ≡ Going q
+pub stays : (records : ℕ) (who : RecordNumber) (s : Shared) (t : Record) (p q : Place) → Ready records who s t p → next_at p s ≡ Continue q
     → Ready records who (shared_after who p s) (live_record (closed_at q) t.list) q
 unfolding shared_after
 stays records who s t p q r e =

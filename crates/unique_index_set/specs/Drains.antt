@@ -3,10 +3,11 @@
 use Rattle.std.specs.Prelude.{ℕ, List}
 use Rattle.unique_index_set_enums.specs.declared.RecordNumber.{RecordNumber}
 use Rattle.calls.specs.Runs.{Run}
+use Rattle.thread_records.specs.declared.Drained.{Drained}
 use Rattle.thread_records.specs.declared.Record.{Record}
 use Rattle.thread_records.specs.Effects.{Effect}
 use Rattle.thread_records.specs.Drains.{drained}
-use Rattle.unique_index_set.specs.declared.drains.Drained.{Drained}
+use Rattle.unique_index_set.specs.declared.UniqueIndexSet.{UniqueIndexSet}
 use Rattle.unique_index_set.specs.Steps.{Shared, leaves, step_judged, step_of}
 
 -- the record's next step
@@ -17,5 +18,5 @@ unfoldable pub drain_of : ℕ → RecordNumber → ℕ → Shared → Record →
 drain_of records who budget s t = drained (step_judged records who s t) (again records who) budget s t
 
 -- a drain's result with the lent buffers as it leaves them
-abbrev pub run_leaves : Drained → List ℕ → List ℕ → Run (Effect Shared)
+abbrev pub run_leaves : Drained UniqueIndexSet → List ℕ → List ℕ → Run (Effect Shared)
 run_leaves r slots custody = record { left = leaves r.stepped slots custody; steps = r.steps }
