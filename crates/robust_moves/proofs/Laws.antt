@@ -1,48 +1,42 @@
 -- Of bump, count and lock: a closed place is read as itself, and what goes on from a sound place is sound. Assumes nothing.
-use Rattle.std.proofs.Common.{◌≡◌, ℕ, ◌+◌, ◌%◌, ◌^◌, ◌<◌, ◌≤◌, true, false, eqb, ltb, leb, refl, arith, ltb-false, ltb-true, le-ltb, le-leb, leb-false, leb-true}
+use Rattle.std.proofs.Common.{◌≡◌, Option, Some, None, ℕ, ◌+◌, ◌%◌, ◌^◌, ◌<◌, ◌≤◌, true, false, eqb, ltb, leb, refl, arith, ltb-false, ltb-true, le-ltb, le-leb, leb-false, leb-true}
+use Rattle.std.specs.declared.ops.ControlFlow.{ControlFlow}
+use Rattle.std.specs.declared.ops.ControlFlow.TheVariants.{Continue, Break}
 use borrow.Author.Tests.{lt-leb}
 use Rattle.unique_index_set_enums.specs.declared.Index.{Index}
 use Rattle.unique_index_set_enums.specs.declared.OwnerId.{OwnerId}
 use Rattle.unique_index_set_enums.specs.declared.Generation.{Generation}
+use Rattle.unique_index_set_enums.specs.declared.ReleaseState.{ReleaseState}
 use Rattle.unique_index_set_enums.specs.Kinds.{index}
 use Rattle.unique_index_set_enums.specs.Robust.{is_empty, is_locked_at, next_generation}
-use Rattle.unique_index_set_enums.proofs.Choice.{choose, second_true}
+use Rattle.std.proofs.lemmas.Bool.{cond_both}
+use Rattle.unique_index_set_enums.proofs.Choice.{second_true}
 use Rattle.robust_moves.specs.declared.Saw.{Saw}
 use Rattle.robust_moves.specs.declared.bump.BumpPlace.{BumpPlace}
 use Rattle.robust_moves.specs.declared.bump.BumpPlace.TheVariants as bump
-use Rattle.robust_moves.specs.declared.bump.Bumped.{Bumped}
-use Rattle.robust_moves.specs.declared.bump.Bumped.TheVariants as bumped
-use Rattle.robust_moves.specs.declared.bump.BumpRead.TheVariants as bumpread
-use Rattle.robust_moves.specs.declared.count.CellAfter.{CellAfter}
-use Rattle.robust_moves.specs.declared.count.CellAfter.TheVariants as after
 use Rattle.robust_moves.specs.declared.count.CountPlace.{CountPlace}
 use Rattle.robust_moves.specs.declared.count.CountPlace.TheVariants as count
-use Rattle.robust_moves.specs.declared.count.Counted.{Counted}
-use Rattle.robust_moves.specs.declared.count.Counted.TheVariants as counted
-use Rattle.robust_moves.specs.declared.count.CountRead.TheVariants as countread
+use Rattle.robust_moves.specs.declared.count.SetState.{SetState}
 use Rattle.robust_moves.specs.declared.lock.LockPlace.{LockPlace}
 use Rattle.robust_moves.specs.declared.lock.LockPlace.TheVariants as lock
-use Rattle.robust_moves.specs.declared.lock.Locked.{Locked}
-use Rattle.robust_moves.specs.declared.lock.Locked.TheVariants as locked
-use Rattle.robust_moves.specs.declared.lock.LockRead.TheVariants as lockread
 use Rattle.robust_moves.specs.Bump.{bump_sound, bump_looked, bump_resumed, bump_read, bump_closed}
 use Rattle.robust_moves.specs.Count.{cell_after, count_sound, count_looked, one_more, count_on_at, count_on, count_bumped, count_resumed, count_read_bump, count_read, count_closed}
 use Rattle.robust_moves.specs.Lock.{lock_sound, lock_looked, lock_counted, lock_resumed, lock_read_count, lock_read, lock_closed}
 
 -- a closed place is read as itself
-pub bump_read_lem : (b : BumpPlace) → bump_read (bump_closed b).part (bump_closed b).seen ≡ bumpread.Known b
+pub bump_read_lem : (b : BumpPlace) → bump_read (bump_closed b).part (bump_closed b).seen ≡ Some b
 unfolding bump_read
 bump_read_lem bump.Look = refl
 bump_read_lem (bump.Exchange seen) = refl
 
-pub count_read_lem : (c : CountPlace) → count_read (count_closed c).part (count_closed c).counting ≡ countread.Known c
+pub count_read_lem : (c : CountPlace) → count_read (count_closed c).part (count_closed c).counting ≡ Some c
 unfolding count_read count_read_bump bump_read
 count_read_lem count.Look = refl
 count_read_lem (count.Cell first cell n) = refl
 count_read_lem (count.Bump first n bump.Look) = refl
 count_read_lem (count.Bump first n (bump.Exchange seen)) = refl
 
-pub lock_read_lem : (l : LockPlace) → lock_read (lock_closed l).part (lock_closed l).counting ≡ lockread.Known l
+pub lock_read_lem : (l : LockPlace) → lock_read (lock_closed l).part (lock_closed l).counting ≡ Some l
 unfolding lock_read lock_read_count count_read count_read_bump bump_read
 lock_read_lem lock.Look = refl
 lock_read_lem (lock.Exchange given) = refl
@@ -52,22 +46,22 @@ lock_read_lem (lock.Count (count.Bump first n bump.Look)) = refl
 lock_read_lem (lock.Count (count.Bump first n (bump.Exchange seen))) = refl
 
 -- what goes on is sound
-abbrev pub BumpStays : Bumped → Type 0
-BumpStays (bumped.Going b) = bump_sound b ≡ true
-BumpStays (bumped.Ended g) = Unit {0}
+abbrev pub BumpStays : ControlFlow Generation BumpPlace → Type 0
+BumpStays (Continue b) = bump_sound b ≡ true
+BumpStays (Break g) = Unit {0}
 
 bump_looked_lem : (found : Generation) → BumpStays (bump_looked found)
 unfolding bump_looked
-bump_looked_lem found = choose BumpStays (is_locked_at found) (bumped.Ended found) (bumped.Going (bump.Exchange found)) (λ _. tt) (λ e. rw e refl)
+bump_looked_lem found = cond_both (is_locked_at found) (Break found) (Continue (bump.Exchange found)) BumpStays (λ _. tt) (λ e. rw e refl)
 
 pub bump_stays : (b : BumpPlace) (saw : Saw) → BumpStays (bump_resumed b saw)
 bump_stays bump.Look saw = bump_looked_lem saw.generation
 bump_stays (bump.Exchange seen) saw =
-    choose BumpStays saw.won (bumped.Ended (next_generation seen)) (bump_looked saw.generation) (λ _. tt) (λ _. bump_looked_lem saw.generation)
+    cond_both saw.won (Break (next_generation seen)) (bump_looked saw.generation) BumpStays (λ _. tt) (λ _. bump_looked_lem saw.generation)
 
-abbrev pub CountStays : ℕ → Counted → Type 0
-CountStays capacity (counted.Going c) = count_sound capacity c ≡ true
-CountStays capacity (counted.Ended g n) = Unit {0}
+abbrev pub CountStays : ℕ → ControlFlow SetState CountPlace → Type 0
+CountStays capacity (Continue c) = count_sound capacity c ≡ true
+CountStays capacity (Break s) = Unit {0}
 
 -- a sound cell: not locked, below the capacity, no more counted than cells passed
 pub cell_sound : (capacity : ℕ) (first : Generation) (cell : Index) (n : ℕ) → is_locked_at first ≡ false → cell.0 < capacity → n ≤ cell.0
@@ -103,33 +97,33 @@ counted_sound capacity first n b e k s = simp (e, le-ltb _ _ k, s)
 count_looked_lem : (capacity : ℕ) (found : Generation) → 0 < capacity → CountStays capacity (count_looked found)
 unfolding count_looked
 count_looked_lem capacity found h =
-    choose (CountStays capacity) (is_locked_at found) (counted.Ended found 0) (counted.Going (count.Cell found (index 0) 0)) (λ _. tt)
+    cond_both (is_locked_at found) _ (Continue (count.Cell found (index 0) 0)) (CountStays capacity) (λ _. tt)
     (λ e. cell_sound capacity found (index 0) 0 e h (omega arith))
 
 -- the cell behind another
-abbrev pub After : ℕ → Index → CellAfter → Type 0
-After capacity cell (after.Cell next) = (next.0 ≡ cell.0 + 1) × (next.0 < capacity)
-After capacity cell after.Past = capacity ≤ cell.0 + 1
+abbrev pub After : ℕ → Index → Option Index → Type 0
+After capacity cell (Some next) = (next.0 ≡ cell.0 + 1) × (next.0 < capacity)
+After capacity cell None = capacity ≤ cell.0 + 1
 
 pub cell_after_lem : (capacity : ℕ) (cell : Index) → After capacity cell (cell_after capacity cell)
 unfolding cell_after
 cell_after_lem capacity cell =
-    choose (After capacity cell) (ltb (cell.0 + 1) capacity) (after.Cell (index (cell.0 + 1))) after.Past
+    cond_both (ltb (cell.0 + 1) capacity) (Some (index (cell.0 + 1))) None (After capacity cell)
     (λ e. (refl, ltb-true _ _ e)) (λ e. ltb-false _ _ e)
 
 at_most_one : (n : ℕ) (o : OwnerId) (m : ℕ) → n ≤ m → m + 1 < 2 ^ 32 → one_more n o ≤ m + 1
 unfolding one_more
-at_most_one n o m h k = choose (λ x. x ≤ m + 1) (is_empty o) n ((n + 1) % 2 ^ 32) (λ _. omega arith) (λ _. omega arith)
+at_most_one n o m h k = cond_both (is_empty o) n ((n + 1) % 2 ^ 32) (λ x. x ≤ m + 1) (λ _. omega arith) (λ _. omega arith)
 
-on_stays : (capacity : ℕ) (first : Generation) (cell : Index) (n : ℕ) (a : CellAfter) → After capacity cell a → is_locked_at first ≡ false → cell.0 < capacity → n ≤ cell.0 + 1
+on_stays : (capacity : ℕ) (first : Generation) (cell : Index) (n : ℕ) (a : Option Index) → After capacity cell a → is_locked_at first ≡ false → cell.0 < capacity → n ≤ cell.0 + 1
     → CountStays capacity (count_on_at a first n)
-on_stays capacity first cell n (after.Cell next) f e h k = cell_sound capacity first next n e f.1 (rw f.0 k)
-on_stays capacity first cell n after.Past f e h k = counted_sound capacity first n bump.Look e (omega arith) refl
+on_stays capacity first cell n (Some next) f e h k = cell_sound capacity first next n e f.1 (rw f.0 k)
+on_stays capacity first cell n None f e h k = counted_sound capacity first n bump.Look e (omega arith) refl
 
-bumped_stays : (capacity : ℕ) (first : Generation) (n : ℕ) (r : Bumped) → is_locked_at first ≡ false → n ≤ capacity → BumpStays r → CountStays capacity (count_bumped first n r)
-bumped_stays capacity first n (bumped.Going b) e h s = counted_sound capacity first n b e h s
-bumped_stays capacity first n (bumped.Ended g) e h s =
-    choose (CountStays capacity) (eqb g.0 (next_generation first).0) (counted.Ended g n) (counted.Going count.Look) (λ _. tt) (λ _. refl)
+bumped_stays : (capacity : ℕ) (first : Generation) (n : ℕ) (r : ControlFlow Generation BumpPlace) → is_locked_at first ≡ false → n ≤ capacity → BumpStays r → CountStays capacity (count_bumped first n r)
+bumped_stays capacity first n (Continue b) e h s = counted_sound capacity first n b e h s
+bumped_stays capacity first n (Break g) e h s =
+    cond_both (eqb g.0 (next_generation first).0) _ (Continue count.Look) (CountStays capacity) (λ _. tt) (λ _. refl)
 
 pub count_stays : (capacity : ℕ) (c : CountPlace) (saw : Saw) → 0 < capacity → capacity < 2 ^ 32 → count_sound capacity c ≡ true → CountStays capacity (count_resumed capacity c saw)
 unfolding count_on
@@ -142,16 +136,16 @@ count_stays capacity (count.Bump first n b) saw p q e =
     let f = counted_facts capacity first n b e in
     bumped_stays capacity first n (bump_resumed b saw) f.unlocked f.most (bump_stays b saw)
 
-abbrev pub LockStays : ℕ → Locked → Type 0
-LockStays capacity (locked.Going l) = lock_sound capacity l ≡ true
-LockStays capacity (locked.Ended s) = Unit {0}
+abbrev pub LockStays : ℕ → ControlFlow ReleaseState LockPlace → Type 0
+LockStays capacity (Continue l) = lock_sound capacity l ≡ true
+LockStays capacity (Break s) = Unit {0}
 
-lock_counted_lem : (capacity : ℕ) (r : Counted) → CountStays capacity r → LockStays capacity (lock_counted r)
-lock_counted_lem capacity (counted.Going c) s = s
-lock_counted_lem capacity (counted.Ended g n) s = choose (LockStays capacity) (eqb n 0) (locked.Going (lock.Exchange g)) _ (λ _. refl) (λ _. tt)
+lock_counted_lem : (capacity : ℕ) (r : ControlFlow SetState CountPlace) → CountStays capacity r → LockStays capacity (lock_counted r)
+lock_counted_lem capacity (Continue c) s = s
+lock_counted_lem capacity (Break x) s = cond_both (eqb x.borrowed_indices 0) (Continue (lock.Exchange x.generation_counter)) _ (LockStays capacity) (λ _. refl) (λ _. tt)
 
 pub lock_stays : (capacity : ℕ) (l : LockPlace) (saw : Saw) → 0 < capacity → capacity < 2 ^ 32 → lock_sound capacity l ≡ true → LockStays capacity (lock_resumed capacity l saw)
 unfolding lock_looked
-lock_stays capacity lock.Look saw p q e = choose (LockStays capacity) (is_locked_at saw.generation) _ (locked.Going (lock.Count count.Look)) (λ _. tt) (λ _. refl)
-lock_stays capacity (lock.Exchange given) saw p q e = choose (LockStays capacity) saw.won _ (locked.Going (lock.Count count.Look)) (λ _. tt) (λ _. refl)
+lock_stays capacity lock.Look saw p q e = cond_both (is_locked_at saw.generation) _ (Continue (lock.Count count.Look)) (LockStays capacity) (λ _. tt) (λ _. refl)
+lock_stays capacity (lock.Exchange given) saw p q e = cond_both saw.won _ (Continue (lock.Count count.Look)) (LockStays capacity) (λ _. tt) (λ _. refl)
 lock_stays capacity (lock.Count c) saw p q e = lock_counted_lem capacity (count_resumed capacity c saw) (count_stays capacity c saw p q e)
