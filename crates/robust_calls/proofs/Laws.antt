@@ -1,91 +1,87 @@
 -- Of the robust set's calls: what goes on from a sound place is sound, with the list beside it; what a start may accept enters at a
 -- sound place. Assumes nothing.
-use Prim.Native.Nat.{ℕ, ◌<◌, ◌^◌}
-use mathlib.Core.Path.{◌≡◌, refl}
-use mathlib.Core.Bool.{true, false}
-use lib.Dec.{eqb}
-use native.Mathlib.Omega.{arith}
-use borrow.Author.Tests.{leb-false, lt-ltb, lt-leb, eqb-false, not-false}
-use Rattle.unique_index_set_enums.specs.declared.ModeRead.{ModeRead}
-use Rattle.unique_index_set_enums.specs.declared.ModeRead.TheVariants as mode
+use Rattle.std.proofs.Common.{◌≡◌, ℕ, ◌<◌, ◌^◌, true, false, eqb, refl, arith, leb-false, Option, Some, None, Result, Ok, Err}
+use Rattle.std.proofs.lemmas.Bool.{cond_both, eqb-false}
+use borrow.Author.Tests.{lt-ltb, lt-leb, not-false}
+use Rattle.std.specs.declared.ops.ControlFlow.{ControlFlow}
+use Rattle.std.specs.declared.ops.ControlFlow.TheVariants.{Continue, Break}
+use Rattle.unique_index_set_enums.specs.declared.Index.{Index}
+use Rattle.unique_index_set_enums.specs.declared.ReleaseMode.{ReleaseMode}
+use Rattle.unique_index_set_enums.specs.declared.ReleaseState.{ReleaseState}
+use Rattle.unique_index_set_enums.specs.declared.UniqueIndexSetAcquireFailure.{UniqueIndexSetAcquireFailure}
+use Rattle.unique_index_set_enums.specs.declared.UnknownMode.{UnknownMode}
 use Rattle.unique_index_set_enums.specs.Numbers.{mode_read}
 use Rattle.unique_index_set_enums.specs.Robust.{is_empty}
-use Rattle.unique_index_set_enums.proofs.Choice.{choose, both_true}
+use Rattle.unique_index_set_enums.proofs.Choice.{both_true}
+use Rattle.calls.specs.declared.Answer.{Answer}
 use Rattle.calls.specs.declared.Call.{Call}
 use Rattle.calls.specs.declared.Call.TheVariants as call
-use Rattle.calls.specs.declared.CallRead.{CallRead}
-use Rattle.calls.specs.declared.CallRead.TheVariants as callread
+use Rattle.calls.specs.declared.UnknownCall.{UnknownCall}
 use Rattle.calls.specs.declared.Request.{Request}
 use Rattle.calls.specs.Numbers.{call_read}
 use Rattle.thread_records.specs.declared.OwnerList.{OwnerList}
 use Rattle.thread_records.specs.Lists.{good_list}
 use Rattle.robust_moves.specs.declared.Saw.{Saw}
-use Rattle.robust_moves.specs.declared.count.Counted.{Counted}
-use Rattle.robust_moves.specs.declared.count.Counted.TheVariants as counted
+use Rattle.robust_moves.specs.declared.count.CountPlace.{CountPlace}
+use Rattle.robust_moves.specs.declared.count.SetState.{SetState}
 use Rattle.robust_moves.specs.Count.{count_resumed}
 use Rattle.robust_moves.proofs.Laws.{CountStays, count_stays}
-use Rattle.robust_acquire.specs.declared.Acquiring.{Acquiring}
-use Rattle.robust_acquire.specs.declared.Acquiring.TheVariants as acquiring
+use Rattle.robust_acquire.specs.declared.AcquirePlace.{AcquirePlace}
 use Rattle.robust_acquire.specs.Acquire.{acquire_resumed}
 use Rattle.robust_acquire.proofs.Laws.{AcquireStays, acquire_stays}
-use Rattle.robust_release.specs.declared.Releasing.{Releasing}
-use Rattle.robust_release.specs.declared.Releasing.TheVariants as releasing
+use Rattle.robust_release.specs.declared.ReleasePlace.{ReleasePlace}
+use Rattle.robust_release.specs.declared.RobustUniqueIndexSetReleaseError.{RobustUniqueIndexSetReleaseError}
 use Rattle.robust_release.specs.Release.{release_resumed}
 use Rattle.robust_release.proofs.Laws.{ReleaseStays, release_stays}
-use Rattle.robust_find.specs.declared.Finding.{Finding}
-use Rattle.robust_find.specs.declared.Finding.TheVariants as finding
+use Rattle.robust_find.specs.declared.FindPlace.{FindPlace}
 use Rattle.robust_find.specs.Find.{find_sound, find_resumed}
 use Rattle.robust_find.proofs.Laws.{FindStays, find_stays}
 use Rattle.robust_recover.specs.declared.RecoverPlace.{RecoverPlace}
-use Rattle.robust_recover.specs.declared.Recovering.{Recovering}
-use Rattle.robust_recover.specs.declared.Recovering.TheVariants as recovering
 use Rattle.robust_recover.specs.Recover.{recover_sound, reads_list, recover_resumed}
 use Rattle.robust_recover.proofs.Laws.{RecoverStays, recover_stays}
 use Rattle.robust_recover.proofs.Lists.{ReadsBefore, list_read}
 use Rattle.robust_places.specs.declared.Place.{Place}
 use Rattle.robust_places.specs.declared.Place.TheVariants.{Acquire, Release, Borrowed, LockedLook, Find, Recover}
 use Rattle.robust_places.specs.Places.{list_sound, sound}
-use Rattle.robust_calls.specs.declared.resumes.Next.{Next}
-use Rattle.robust_calls.specs.declared.resumes.Next.TheVariants.{Going, Answered}
 use Rattle.robust_calls.specs.declared.asks.Asked.{Asked}
 use Rattle.robust_calls.specs.declared.asks.Asked.TheVariants as asked
-use Rattle.robust_calls.specs.declared.asks.Beginning.{Beginning}
-use Rattle.robust_calls.specs.declared.asks.Beginning.TheVariants as beginning
 use Rattle.robust_calls.specs.Asks.{asked_release_in, asked_release, asked_find, asked_recover_in, asked_recover, asked_call, asked_for, asked_of, is_owner_empty, is_out_of_range, list_damaged_for, list_damaged, first_place}
 use Rattle.robust_calls.specs.Resumes.{acquire_next, release_next, borrowed_next, find_next, recover_next, resumed_at}
 
-abbrev pub NextStays : ℕ → OwnerList → Next → Type 0
-NextStays capacity list (Going q) = sound capacity q list ≡ true
-NextStays capacity list (Answered a) = Unit {0}
+abbrev pub NextStays : ℕ → OwnerList → ControlFlow Answer Place → Type 0
+NextStays capacity list (Continue q) = sound capacity q list ≡ true
+NextStays capacity list (Break a) = Unit {0}
 
-acquire_next_lem : (capacity : ℕ) (list : OwnerList) (n : Acquiring) → AcquireStays capacity n → NextStays capacity list (acquire_next n)
-acquire_next_lem capacity list (acquiring.Going p) e = e
-acquire_next_lem capacity list (acquiring.Acquired i) e = tt
-acquire_next_lem capacity list (acquiring.Failed f) e = tt
+acquire_next_lem : (capacity : ℕ) (list : OwnerList) (n : ControlFlow (Result Index UniqueIndexSetAcquireFailure) AcquirePlace) → AcquireStays capacity n
+    → NextStays capacity list (acquire_next n)
+acquire_next_lem capacity list (Continue p) e = e
+acquire_next_lem capacity list (Break (Ok i)) e = tt
+acquire_next_lem capacity list (Break (Err f)) e = tt
 
-release_next_lem : (capacity : ℕ) (list : OwnerList) (n : Releasing) → ReleaseStays capacity n → NextStays capacity list (release_next n)
-release_next_lem capacity list (releasing.Going p) e = e
-release_next_lem capacity list (releasing.Released s) e = tt
-release_next_lem capacity list releasing.NotOwned e = tt
+release_next_lem : (capacity : ℕ) (list : OwnerList) (n : ControlFlow (Result ReleaseState RobustUniqueIndexSetReleaseError) ReleasePlace) → ReleaseStays capacity n
+    → NextStays capacity list (release_next n)
+release_next_lem capacity list (Continue p) e = e
+release_next_lem capacity list (Break (Ok s)) e = tt
+release_next_lem capacity list (Break (Err f)) e = tt
 
-borrowed_next_lem : (capacity : ℕ) (list : OwnerList) (n : Counted) → CountStays capacity n → NextStays capacity list (borrowed_next n)
-borrowed_next_lem capacity list (counted.Going p) e = e
-borrowed_next_lem capacity list (counted.Ended g m) e = tt
+borrowed_next_lem : (capacity : ℕ) (list : OwnerList) (n : ControlFlow SetState CountPlace) → CountStays capacity n → NextStays capacity list (borrowed_next n)
+borrowed_next_lem capacity list (Continue p) e = e
+borrowed_next_lem capacity list (Break s) e = tt
 
-find_next_lem : (capacity : ℕ) (list : OwnerList) (n : Finding) → FindStays capacity n → NextStays capacity list (find_next n)
-find_next_lem capacity list (finding.Going p) e = e
-find_next_lem capacity list (finding.Found m) e = tt
+find_next_lem : (capacity : ℕ) (list : OwnerList) (n : ControlFlow ℕ FindPlace) → FindStays capacity n → NextStays capacity list (find_next n)
+find_next_lem capacity list (Continue p) e = e
+find_next_lem capacity list (Break m) e = tt
 
 -- a list that was good where it was read is good where it still is
 list_stays : (capacity : ℕ) (p q : RecoverPlace) (list : OwnerList) → (reads_list capacity q ≡ true → reads_list capacity p ≡ true) → list_sound capacity p list ≡ true → list_sound capacity q list ≡ true
 unfolding list_sound
 list_stays capacity p q list r e =
-    choose (λ b. b ≡ true) (reads_list capacity q) (good_list list) true (λ h. rw (r h) at e) (λ _. refl)
+    cond_both (reads_list capacity q) (good_list list) true (λ b. b ≡ true) (λ h. rw (r h) at e) (λ _. refl)
 
-recover_next_lem : (capacity : ℕ) (p : RecoverPlace) (list : OwnerList) (n : Recovering) → list_sound capacity p list ≡ true → RecoverStays capacity n
+recover_next_lem : (capacity : ℕ) (p : RecoverPlace) (list : OwnerList) (n : ControlFlow ReleaseState RecoverPlace) → list_sound capacity p list ≡ true → RecoverStays capacity n
     → ReadsBefore capacity (reads_list capacity p) n → NextStays capacity list (recover_next n)
-recover_next_lem capacity p list (recovering.Going q) e s r = simp (s, list_stays capacity p q list r e)
-recover_next_lem capacity p list (recovering.Recovered x) e s r = tt
+recover_next_lem capacity p list (Continue q) e s r = simp (s, list_stays capacity p q list r e)
+recover_next_lem capacity p list (Break x) e s r = tt
 
 -- what goes on from a sound place is sound
 pub next_stays : (capacity : ℕ) (p : Place) (list : OwnerList) (saw : Saw) → 0 < capacity → capacity < 2 ^ 32 → sound capacity p list ≡ true
@@ -107,14 +103,9 @@ Good capacity list asked.BorrowedIndices = Unit {0}
 Good capacity list asked.IsLocked = Unit {0}
 Good capacity list (asked.Find o room) = (is_empty o ≡ false) × (0 < room)
 Good capacity list (asked.Recover m) = good_list list ≡ true
-Good capacity list asked.NotKnown = Unit {0}
 
 -- the entry is at a sound place
-abbrev pub BeginningSound : ℕ → OwnerList → Beginning → Type 0
-BeginningSound capacity list (beginning.At p) = sound capacity p list ≡ true
-BeginningSound capacity list beginning.Nowhere = Unit {0}
-
-pub first_sound : (capacity : ℕ) (list : OwnerList) (a : Asked) → 0 < capacity → Good capacity list a → BeginningSound capacity list (first_place a)
+pub first_sound : (capacity : ℕ) (list : OwnerList) (a : Asked) → 0 < capacity → Good capacity list a → sound capacity (first_place a) list ≡ true
 unfolding find_sound list_sound
 first_sound capacity list (asked.Acquire o) h g = simp g
 first_sound capacity list (asked.Release i o m) h g = simp (g.0, lt-ltb i.0 capacity g.1)
@@ -122,25 +113,29 @@ first_sound capacity list asked.BorrowedIndices h g = refl
 first_sound capacity list asked.IsLocked h g = refl
 first_sound capacity list (asked.Find o room) h g = simp (g.0, lt-leb capacity 0 h, lt-ltb 0 room g.1)
 first_sound capacity list (asked.Recover m) h g = g
-first_sound capacity list asked.NotKnown h g = tt
+
+-- of what is asked, if it is known
+abbrev pub GoodAsked : ℕ → OwnerList → Option Asked → Type 0
+GoodAsked capacity list (Some a) = Good capacity list a
+GoodAsked capacity list None = Unit {0}
 
 -- what is asked passes them where the tests do
-abbrev Passes : ℕ → OwnerList → Asked → Type 0
-Passes capacity list a = is_owner_empty a ≡ false → is_out_of_range capacity a ≡ false → Good capacity list a
+abbrev Passes : ℕ → OwnerList → Option Asked → Type 0
+Passes capacity list a = is_owner_empty a ≡ false → is_out_of_range capacity a ≡ false → GoodAsked capacity list a
 
-release_in : (capacity : ℕ) (list : OwnerList) (m : ModeRead) (r : Request) → Passes capacity list (asked_release_in m r)
-release_in capacity list (mode.Known m) r = λ o i. (o, leb-false capacity r.index_or_room i)
-release_in capacity list mode.Unknown r = λ o i. tt
+release_in : (capacity : ℕ) (list : OwnerList) (m : Result ReleaseMode UnknownMode) (r : Request) → Passes capacity list (asked_release_in m r)
+release_in capacity list (Ok m) r = λ o i. (o, leb-false capacity r.index_or_room i)
+release_in capacity list (Err e) r = λ o i. tt
 
 find_in : (capacity : ℕ) (list : OwnerList) (r : Request) → Passes capacity list (asked_find r)
 unfolding asked_find
 find_in capacity list r =
-    choose (Passes capacity list) (eqb r.index_or_room 0) asked.NotKnown (asked.Find r.owner r.index_or_room) (λ _ o i. tt)
+    cond_both (eqb r.index_or_room 0) None (Some (asked.Find r.owner r.index_or_room)) (Passes capacity list) (λ _ o i. tt)
     (λ z o i. (o, (let n = eqb-false r.index_or_room 0 z in omega arith)))
 
-recover_in : (capacity : ℕ) (list : OwnerList) (m : ModeRead) → good_list list ≡ true → Passes capacity list (asked_recover_in m)
-recover_in capacity list (mode.Known m) g = λ o i. g
-recover_in capacity list mode.Unknown g = λ o i. tt
+recover_in : (capacity : ℕ) (list : OwnerList) (m : Result ReleaseMode UnknownMode) → good_list list ≡ true → Passes capacity list (asked_recover_in m)
+recover_in capacity list (Ok m) g = λ o i. g
+recover_in capacity list (Err e) g = λ o i. tt
 
 call_in : (capacity : ℕ) (list : OwnerList) (c : Call) (r : Request) → list_damaged_for c list ≡ false → Passes capacity list (asked_call c r)
 unfolding asked_release asked_recover
@@ -151,11 +146,11 @@ call_in capacity list call.IsLocked r d = λ o i. tt
 call_in capacity list call.Find r d = find_in capacity list r
 call_in capacity list call.Recover r d = recover_in capacity list (mode_read r.mode) (not-false (good_list list) d)
 
-read_in : (capacity : ℕ) (list : OwnerList) (c : CallRead) (r : Request) → list_damaged c list ≡ false → Passes capacity list (asked_for c r)
-read_in capacity list (callread.Known c) r d = call_in capacity list c r d
-read_in capacity list callread.Unknown r d = λ o i. tt
+read_in : (capacity : ℕ) (list : OwnerList) (c : Result Call UnknownCall) (r : Request) → list_damaged c list ≡ false → Passes capacity list (asked_for c r)
+read_in capacity list (Ok c) r d = call_in capacity list c r d
+read_in capacity list (Err e) r d = λ o i. tt
 
 pub asked_good : (capacity : ℕ) (list : OwnerList) (r : Request) → list_damaged (call_read r.call) list ≡ false → is_owner_empty (asked_of r) ≡ false
-    → is_out_of_range capacity (asked_of r) ≡ false → Good capacity list (asked_of r)
+    → is_out_of_range capacity (asked_of r) ≡ false → GoodAsked capacity list (asked_of r)
 unfolding asked_of
 asked_good capacity list r d = read_in capacity list (call_read r.call) r d

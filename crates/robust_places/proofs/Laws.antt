@@ -1,5 +1,5 @@
 -- An opened closed place is itself, and a place that opens is sound. Assumes nothing.
-use Rattle.std.proofs.Common.{◌≡◌, ℕ, Bool, true, false, cond, eqb, refl, eqb-true}
+use Rattle.std.proofs.Common.{◌≡◌, ℕ, Bool, true, false, cond, eqb, refl, eqb-true, Option, Some, None}
 use Rattle.unique_index_set_enums.proofs.Choice.{both_true}
 use Rattle.thread_records.specs.declared.OwnerList.{OwnerList}
 use Rattle.thread_records.specs.declared.Remembered.{Remembered}
@@ -20,21 +20,18 @@ use Rattle.robust_recover.specs.Recover.{recover_sound}
 use Rattle.robust_recover.proofs.Laws.{recover_read_lem}
 use Rattle.robust_places.specs.declared.Place.{Place}
 use Rattle.robust_places.specs.declared.Place.TheVariants.{Acquire, Release, Borrowed, LockedLook, Find, Recover}
-use Rattle.robust_places.specs.declared.PlaceRead.{PlaceRead}
-use Rattle.robust_places.specs.declared.PlaceRead.TheVariants.{Known, Unknown}
-use Rattle.robust_places.specs.declared.Opened.TheVariants.{At, Damaged}
-use Rattle.robust_places.specs.Places.{sound, acquire_place_read, release_place_read, borrowed_place_read, recover_place_read, place_read, opened_from, opened_at, closed_at}
+use Rattle.robust_places.specs.Places.{sound, place_read, opened_from, opened_at, closed_at}
 
-acquire_place : (capacity : ℕ) (p : AcquirePlace) → place_read capacity (closed_at (Acquire p)) ≡ Known (Acquire p)
-unfolding place_read acquire_place_read
+acquire_place : (capacity : ℕ) (p : AcquirePlace) → place_read capacity (closed_at (Acquire p)) ≡ Some (Acquire p)
+unfolding place_read
 acquire_place capacity (acquire.Look o) = simp (acquire_read_lem (acquire.Look o))
 acquire_place capacity (acquire.Cell o seen cell) = simp (acquire_read_lem (acquire.Cell o seen cell))
 acquire_place capacity (acquire.Close o seen) = simp (acquire_read_lem (acquire.Close o seen))
 acquire_place capacity (acquire.Bump won bump.Look) = simp (acquire_read_lem (acquire.Bump won bump.Look))
 acquire_place capacity (acquire.Bump won (bump.Exchange seen)) = simp (acquire_read_lem (acquire.Bump won (bump.Exchange seen)))
 
-release_place : (capacity : ℕ) (p : ReleasePlace) → place_read capacity (closed_at (Release p)) ≡ Known (Release p)
-unfolding place_read release_place_read
+release_place : (capacity : ℕ) (p : ReleasePlace) → place_read capacity (closed_at (Release p)) ≡ Some (Release p)
+unfolding place_read
 release_place capacity (release.Cell i o m) = simp (release_read_lem (release.Cell i o m))
 release_place capacity (release.Bump m bump.Look) = simp (release_read_lem (release.Bump m bump.Look))
 release_place capacity (release.Bump m (bump.Exchange seen)) = simp (release_read_lem (release.Bump m (bump.Exchange seen)))
@@ -45,15 +42,15 @@ release_place capacity (release.Lock (lock.Count (count.Cell first cell n))) = s
 release_place capacity (release.Lock (lock.Count (count.Bump first n bump.Look))) = simp (release_read_lem (release.Lock (lock.Count (count.Bump first n bump.Look))))
 release_place capacity (release.Lock (lock.Count (count.Bump first n (bump.Exchange seen)))) = simp (release_read_lem (release.Lock (lock.Count (count.Bump first n (bump.Exchange seen)))))
 
-borrowed_place : (capacity : ℕ) (p : CountPlace) → place_read capacity (closed_at (Borrowed p)) ≡ Known (Borrowed p)
-unfolding place_read borrowed_place_read
+borrowed_place : (capacity : ℕ) (p : CountPlace) → place_read capacity (closed_at (Borrowed p)) ≡ Some (Borrowed p)
+unfolding place_read
 borrowed_place capacity count.Look = simp (count_read_lem count.Look)
 borrowed_place capacity (count.Cell first cell n) = simp (count_read_lem (count.Cell first cell n))
 borrowed_place capacity (count.Bump first n bump.Look) = simp (count_read_lem (count.Bump first n bump.Look))
 borrowed_place capacity (count.Bump first n (bump.Exchange seen)) = simp (count_read_lem (count.Bump first n (bump.Exchange seen)))
 
-recover_place : (capacity : ℕ) (p : RecoverPlace) → recover_sound capacity p ≡ true → place_read capacity (closed_at (Recover p)) ≡ Known (Recover p)
-unfolding place_read recover_place_read
+recover_place : (capacity : ℕ) (p : RecoverPlace) → recover_sound capacity p ≡ true → place_read capacity (closed_at (Recover p)) ≡ Some (Recover p)
+unfolding place_read
 recover_place capacity (recover.Look m) e = simp (recover_read_lem capacity (recover.Look m) e)
 recover_place capacity (recover.Load cell m) e = simp (recover_read_lem capacity (recover.Load cell m) e)
 recover_place capacity (recover.Exchange cell m o) e = simp (recover_read_lem capacity (recover.Exchange cell m o) e)
@@ -67,7 +64,7 @@ recover_place capacity (recover.Lock r (lock.Count (count.Bump first n bump.Look
 recover_place capacity (recover.Lock r (lock.Count (count.Bump first n (bump.Exchange seen)))) e = simp (recover_read_lem capacity (recover.Lock r (lock.Count (count.Bump first n (bump.Exchange seen)))) e)
 recover_place capacity recover.LastLook e = simp (recover_read_lem capacity recover.LastLook e)
 
-pub place_read_lem : (capacity : ℕ) (p : Place) (list : OwnerList) → sound capacity p list ≡ true → place_read capacity (closed_at p) ≡ Known p
+pub place_read_lem : (capacity : ℕ) (p : Place) (list : OwnerList) → sound capacity p list ≡ true → place_read capacity (closed_at p) ≡ Some p
 unfolding place_read
 place_read_lem capacity (Acquire p) list e = acquire_place capacity p
 place_read_lem capacity (Release p) list e = release_place capacity p
@@ -76,7 +73,7 @@ place_read_lem capacity LockedLook list e = refl
 place_read_lem capacity (Find p) list e = refl
 place_read_lem capacity (Recover p) list e = recover_place capacity p (both_true (recover_sound capacity p) e).0
 
-pub opened_closed : (capacity : ℕ) (p : Place) (list : OwnerList) → sound capacity p list ≡ true → opened_at capacity (closed_at p) list ≡ At p
+pub opened_closed : (capacity : ℕ) (p : Place) (list : OwnerList) → sound capacity p list ≡ true → opened_at capacity (closed_at p) list ≡ Some p
 unfolding opened_at
 opened_closed capacity p list s = simp (place_read_lem capacity p list s, s)
 
@@ -84,19 +81,19 @@ bool_or : (b : Bool) → (b ≡ true → b ≡ false) → (b ≡ false → b ≡
 bool_or true f g = f refl
 bool_or false f g = refl
 
-at_or : (b : Bool) (p q : Place) → cond b (At p) Damaged ≡ At q → (b ≡ true) × (p ≡ q)
+at_or : (b : Bool) (p q : Place) → cond b (Some p) None ≡ Some q → (b ≡ true) × (p ≡ q)
 at_or true p q e = (refl, cc)
 at_or false p q e = (cc, cc)
 
-from_sound : (capacity : ℕ) (r : PlaceRead) (list : OwnerList) (p : Place) → opened_from capacity r list ≡ At p → sound capacity p list ≡ true
-from_sound capacity Unknown list p e = cc
-from_sound capacity (Known q) list p e = let s = at_or (sound capacity q list) q p e in rw (← s.1) s.0
+from_sound : (capacity : ℕ) (r : Option Place) (list : OwnerList) (p : Place) → opened_from capacity r list ≡ Some p → sound capacity p list ≡ true
+from_sound capacity None list p e = cc
+from_sound capacity (Some q) list p e = let s = at_or (sound capacity q list) q p e in rw (← s.1) s.0
 
-pub opened_sound : (capacity : ℕ) (c : Remembered) (list : OwnerList) (p : Place) → opened_at capacity c list ≡ At p → sound capacity p list ≡ true
+pub opened_sound : (capacity : ℕ) (c : Remembered) (list : OwnerList) (p : Place) → opened_at capacity c list ≡ Some p → sound capacity p list ≡ true
 unfolding opened_at
 opened_sound capacity c list p e = from_sound capacity (place_read capacity c) list p e
 
 -- a number that names a place is not 0
-pub read_busy : (capacity : ℕ) (c : Remembered) (p : Place) → place_read capacity c ≡ Known p → eqb c.place 0 ≡ false
+pub read_busy : (capacity : ℕ) (c : Remembered) (p : Place) → place_read capacity c ≡ Some p → eqb c.place 0 ≡ false
 unfolding place_read
-read_busy capacity c p e = bool_or (eqb c.place 0) (λ q. let z : Unknown ≡ Known p = rw (eqb-true c.place 0 q) at e in cc) (λ q. q)
+read_busy capacity c p e = bool_or (eqb c.place 0) (λ q. let z : None ≡ Some p = rw (eqb-true c.place 0 q) at e in cc) (λ q. q)

@@ -1,8 +1,8 @@
 -- The scope's corners of the robust set, as laws of the definitions that the contracts cite. Assumes nothing.
-use Prim.Native.Nat.{ℕ}
-use mathlib.Core.Path.{◌≡◌, refl}
-use mathlib.Core.Bool.{Bool, true, false, cond}
-use lib.Dec.{leb, eqb}
+use Rattle.std.proofs.Common.{◌≡◌, ℕ, Bool, true, false, cond, leb, eqb, refl}
+use Rattle.std.specs.declared.ops.ControlFlow.{ControlFlow}
+use Rattle.std.specs.declared.ops.ControlFlow.TheVariants.{Continue, Break}
+use Rattle.std.proofs.lemmas.Bool.{cond_both}
 use borrow.Author.Tests.{not-true}
 use Rattle.unique_index_set_enums.specs.declared.Index.{Index}
 use Rattle.unique_index_set_enums.specs.declared.OwnerId.{OwnerId}
@@ -13,7 +13,7 @@ use Rattle.unique_index_set_enums.specs.declared.ReleaseState.TheVariants as sta
 use Rattle.unique_index_set_enums.specs.declared.UniqueIndexSetAcquireFailure.TheVariants.{IsLocked}
 use Rattle.unique_index_set_enums.specs.Kinds.{generation}
 use Rattle.unique_index_set_enums.specs.Robust.{locked_generation, is_empty, is_locked_at, next_generation}
-use Rattle.unique_index_set_enums.proofs.Choice.{choose, both_true, second_true}
+use Rattle.unique_index_set_enums.proofs.Choice.{both_true, second_true}
 use Rattle.calls.specs.declared.Answer.TheVariants as answer
 use Rattle.calls.specs.declared.Progress.TheVariants as progress
 use Rattle.thread_records.specs.declared.OwnerList.{OwnerList}
@@ -22,13 +22,10 @@ use Rattle.robust_moves.specs.declared.Access.TheVariants as access
 use Rattle.robust_moves.specs.declared.Saw.{Saw}
 use Rattle.robust_moves.specs.declared.bump.BumpPlace.{BumpPlace}
 use Rattle.robust_moves.specs.declared.bump.BumpPlace.TheVariants as bump
-use Rattle.robust_moves.specs.declared.bump.Bumped.TheVariants as bumped
 use Rattle.robust_moves.specs.declared.count.CountPlace.{CountPlace}
 use Rattle.robust_moves.specs.declared.count.CountPlace.TheVariants as count
-use Rattle.robust_moves.specs.declared.count.Counted.TheVariants as counted
 use Rattle.robust_moves.specs.declared.lock.LockPlace.{LockPlace}
 use Rattle.robust_moves.specs.declared.lock.LockPlace.TheVariants as lock
-use Rattle.robust_moves.specs.declared.lock.Locked.TheVariants as locked
 use Rattle.robust_moves.specs.Bump.{bump_sound, bump_access, bump_looked, bump_resumed}
 use Rattle.robust_moves.specs.Count.{count_sound, count_access, count_looked, count_resumed}
 use Rattle.robust_moves.specs.Lock.{lock_sound, lock_access, lock_resumed}
@@ -43,7 +40,6 @@ use Rattle.robust_recover.specs.declared.Rest.{Rest}
 use Rattle.robust_recover.specs.declared.RecoverPlace.{RecoverPlace}
 use Rattle.robust_recover.specs.declared.RecoverPlace.TheVariants as recover
 use Rattle.robust_recover.specs.Recover.{rest_sound, recover_sound, recover_access, recover_locked, last_looked}
-use Rattle.robust_recover.specs.declared.Recovering.TheVariants as recovering
 use Rattle.robust_places.specs.declared.Place.{Place}
 use Rattle.robust_places.specs.declared.Place.TheVariants.{Acquire, Release, Borrowed, LockedLook, Find, Recover}
 use Rattle.robust_places.specs.Places.{sound}
@@ -60,7 +56,7 @@ bump_leaves : (b : BumpPlace) (s : Shared) → cells_after (bump_access b) s.cel
 bump_leaves bump.Look s = refl
 bump_leaves (bump.Exchange seen) s = refl
 
-pub locked_acquire : (won : Index) (b : BumpPlace) (g : Generation) (list : OwnerList) (s : Shared) → bump_resumed b (saw_at (Acquire (acquire.Bump won b)) s) ≡ bumped.Ended g
+pub locked_acquire : (won : Index) (b : BumpPlace) (g : Generation) (list : OwnerList) (s : Shared) → bump_resumed b (saw_at (Acquire (acquire.Bump won b)) s) ≡ Break g
     → is_locked_at g ≡ true → Populated won b list s
 unfolding advanced shared_after
 locked_acquire won b g list s e l = record { answers = rw e (rw l refl); cells = bump_leaves b s }
@@ -78,12 +74,12 @@ unfolding advanced shared_after
 not_owned i o m list s lost = record { answers = rw lost refl; over = rw lost refl; cells = rw lost refl; generation_stays = refl }
 
 -- a count whose look meets the lock mark gives 0 with that generation, and the lock exchange then remembers it
-pub locked_count : (capacity : ℕ) (saw : Saw) → is_locked_at saw.generation ≡ true → count_resumed capacity count.Look saw ≡ counted.Ended saw.generation 0
+pub locked_count : (capacity : ℕ) (saw : Saw) → is_locked_at saw.generation ≡ true → count_resumed capacity count.Look saw ≡ Break (record { generation_counter = saw.generation; borrowed_indices = 0 })
 unfolding count_looked
 locked_count capacity saw l = rw l refl
 
 pub lock_remembers : (capacity : ℕ) (saw : Saw) → is_locked_at saw.generation ≡ true
-    → lock_resumed capacity (lock.Count count.Look) saw ≡ locked.Going (lock.Exchange saw.generation)
+    → lock_resumed capacity (lock.Count count.Look) saw ≡ Continue (lock.Exchange saw.generation)
 unfolding count_looked
 lock_remembers capacity saw l = rw l refl
 
@@ -91,13 +87,13 @@ pub lock_may : (capacity : ℕ) (g : Generation) → lock_sound capacity (lock.E
 lock_may capacity g = refl
 
 -- a recover's lock outcome is ignored, and its last look gives the state
-pub lock_ignored : (capacity : ℕ) (r : Rest) (x y : ReleaseState) → recover_locked capacity r (locked.Ended x) ≡ recover_locked capacity r (locked.Ended y)
+pub lock_ignored : (capacity : ℕ) (r : Rest) (x y : ReleaseState) → recover_locked capacity r (Break x) ≡ recover_locked capacity r (Break y)
 lock_ignored capacity r x y = refl
 
 abbrev pub state_at : Generation → ReleaseState
 state_at found = cond (is_locked_at found) state.Locked state.Unlocked
 
-state_answer : (b : Bool) → cond b (recovering.Recovered state.Locked) (recovering.Recovered state.Unlocked) ≡ recovering.Recovered (cond b state.Locked state.Unlocked)
+state_answer : (b : Bool) → ◌≡◌ {A = ControlFlow ReleaseState RecoverPlace} (cond b (Break state.Locked) (Break state.Unlocked)) (Break (cond b state.Locked state.Unlocked))
 state_answer true = refl
 state_answer false = refl
 
@@ -110,9 +106,9 @@ abbrev pub last_generation : Generation
 last_generation = generation 18446744073709551614
 
 pub record LastBump (b w : Saw) : Type 0 where
-  pub looks : bump_resumed bump.Look b ≡ bumped.Going (bump.Exchange last_generation)
+  pub looks : bump_resumed bump.Look b ≡ Continue (bump.Exchange last_generation)
   pub moves : generation_after last_generation (bump_access (bump.Exchange last_generation)) ≡ locked_generation
-  pub ends : bump_resumed (bump.Exchange last_generation) w ≡ bumped.Ended locked_generation
+  pub ends : bump_resumed (bump.Exchange last_generation) w ≡ Break locked_generation
 
 pub last_bump : (b w : Saw) → b.generation ≡ last_generation → w.won ≡ true → LastBump b w
 unfolding next_generation bump_looked is_locked_at
@@ -137,7 +133,7 @@ count_keeps capacity (count.Bump first n b) e = bump_keeps b (counted_facts capa
 
 lock_keeps : (capacity : ℕ) (l : LockPlace) → lock_sound capacity l ≡ true → generation_after locked_generation (lock_access l) ≡ locked_generation
 lock_keeps capacity lock.Look e = refl
-lock_keeps capacity (lock.Exchange given) e = choose (λ g. g ≡ locked_generation) (eqb given.0 locked_generation.0) locked_generation locked_generation (λ _. refl) (λ _. refl)
+lock_keeps capacity (lock.Exchange given) e = cond_both (eqb given.0 locked_generation.0) locked_generation locked_generation (λ g. g ≡ locked_generation) (λ _. refl) (λ _. refl)
 lock_keeps capacity (lock.Count c) e = count_keeps capacity c e
 
 acquire_keeps : (capacity : ℕ) (p : AcquirePlace) → acquire_sound capacity p ≡ true → generation_after locked_generation (acquire_access p) ≡ locked_generation

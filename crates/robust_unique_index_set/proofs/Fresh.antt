@@ -1,10 +1,7 @@
 -- What an accepted setup leaves: the cells below the capacity have no owner, those beyond are as they were. Assumes nothing.
-use Prim.Native.Nat.{ℕ, ◌≤◌, ◌<◌}
-use mathlib.Core.Path.{◌≡◌, refl}
-use lib.ListN.{length, get_or}
+use Rattle.std.proofs.Common.{◌≡◌, ℕ, ◌≤◌, ◌<◌, length, get_or, refl, Ok}
 use Rattle.unique_index_set_enums.specs.Kinds.{generation}
 use Rattle.unique_index_set_enums.specs.Robust.{no_owner}
-use Rattle.calls.specs.declared.Verdict.TheVariants.{Accepted}
 use Rattle.thread_records.specs.declared.Record.{Record}
 use Rattle.thread_records.proofs.Filled.{filled-length, filled_below, filled_beyond}
 use Rattle.robust_unique_index_set.specs.Steps.{Shared}
@@ -27,6 +24,6 @@ set_fresh capacity s l = record {
   cells_beyond = λ i h. filled_beyond empty_cell capacity i s.cells h;
 }
 
-pub setup_fresh : (records capacity : ℕ) (s : Shared) (t : Record) → setup_judged records capacity s ≡ Accepted → Fresh capacity s (setup_of records capacity s t).shared
+pub setup_fresh : (records capacity : ℕ) (s : Shared) (t : Record) → setup_judged records capacity s ≡ Ok tt → Fresh capacity s (setup_of records capacity s t).shared
 unfolding setup_of
 setup_fresh records capacity s t e = rw e (set_fresh capacity s (setup_roomy records capacity (length s.cells) e))

@@ -1,12 +1,12 @@
 -- The numbers that each call of the robust set can come back with, by the scope's own numbers. Assumes nothing.
-use Prim.Native.Nat.{ℕ}
-use mathlib.Core.Path.{◌≡◌, refl}
-use mathlib.Core.Bool.{Bool, true, false}
-use mathlib.Core.List.{List, [], ◌∷◌}
-use lib.ListN.{length}
-use lib.Dec.{ltb, eqb}
+use Rattle.std.proofs.Common.{◌≡◌, ℕ, Bool, true, false, List, [], ◌∷◌, length, ltb, eqb, refl, Option, Some, None, Result, Ok, Err}
+use Rattle.std.specs.declared.ops.ControlFlow.{ControlFlow}
+use Rattle.std.specs.declared.ops.ControlFlow.TheVariants.{Continue, Break}
+use Rattle.unique_index_set_enums.specs.declared.Index.{Index}
 use Rattle.unique_index_set_enums.specs.declared.RecordNumber.{RecordNumber}
 use Rattle.unique_index_set_enums.specs.declared.UniqueIndexCreationError.TheVariants.{ProvidedCapacityGreaterThanMaxCapacity, ProvidedCapacityIsZero}
+use Rattle.unique_index_set_enums.specs.declared.ReleaseState.{ReleaseState}
+use Rattle.unique_index_set_enums.specs.declared.UniqueIndexSetAcquireFailure.{UniqueIndexSetAcquireFailure}
 use Rattle.unique_index_set_enums.specs.declared.UniqueIndexSetAcquireFailure.TheVariants.{OutOfIndices, IsLocked}
 use Rattle.unique_index_set_enums.specs.Limits.{robust_capacity_limit, records_limit}
 use Rattle.calls.specs.declared.Answer.{Answer}
@@ -24,34 +24,25 @@ use Rattle.thread_records.proofs.Leaves.{same_answer}
 use Rattle.thread_records.proofs.Drains.{drain_among}
 use Rattle.thread_records.proofs.Numbers.{among, RefusedAmong, FailedAmong, unchanged-among, taken_among, judged_among, setup_numbers, setup_failed, step_numbers, step_failed, drain_numbers, drain_failed}
 use Rattle.robust_moves.specs.declared.Saw.{Saw}
-use Rattle.robust_moves.specs.declared.count.Counted.{Counted}
-use Rattle.robust_moves.specs.declared.count.Counted.TheVariants as counted
+use Rattle.robust_moves.specs.declared.count.CountPlace.{CountPlace}
+use Rattle.robust_moves.specs.declared.count.SetState.{SetState}
 use Rattle.robust_moves.specs.Count.{count_resumed}
-use Rattle.robust_acquire.specs.declared.Acquiring.{Acquiring}
-use Rattle.robust_acquire.specs.declared.Acquiring.TheVariants as acquiring
+use Rattle.robust_acquire.specs.declared.AcquirePlace.{AcquirePlace}
 use Rattle.robust_acquire.specs.Acquire.{acquire_resumed}
-use Rattle.robust_release.specs.declared.Releasing.{Releasing}
-use Rattle.robust_release.specs.declared.Releasing.TheVariants as releasing
+use Rattle.robust_release.specs.declared.ReleasePlace.{ReleasePlace}
+use Rattle.robust_release.specs.declared.RobustUniqueIndexSetReleaseError.{RobustUniqueIndexSetReleaseError}
 use Rattle.robust_release.specs.Release.{release_resumed}
-use Rattle.robust_find.specs.declared.Finding.{Finding}
-use Rattle.robust_find.specs.declared.Finding.TheVariants as finding
+use Rattle.robust_find.specs.declared.FindPlace.{FindPlace}
 use Rattle.robust_find.specs.Find.{find_resumed}
-use Rattle.robust_recover.specs.declared.Recovering.{Recovering}
-use Rattle.robust_recover.specs.declared.Recovering.TheVariants as recovering
+use Rattle.robust_recover.specs.declared.RecoverPlace.{RecoverPlace}
 use Rattle.robust_recover.specs.Recover.{recover_resumed}
 use Rattle.robust_places.specs.declared.Place.{Place}
 use Rattle.robust_places.specs.declared.Place.TheVariants.{Acquire, Release, Borrowed, LockedLook, Find, Recover}
-use Rattle.robust_places.specs.declared.Opened.{Opened}
-use Rattle.robust_places.specs.declared.Opened.TheVariants.{At, Damaged}
-use Rattle.robust_calls.specs.declared.resumes.Next.{Next}
-use Rattle.robust_calls.specs.declared.resumes.Next.TheVariants.{Going, Answered}
 use Rattle.robust_calls.specs.declared.asks.Asked.{Asked}
-use Rattle.robust_calls.specs.declared.asks.Beginning.{Beginning}
-use Rattle.robust_calls.specs.declared.asks.Beginning.TheVariants as beginning
-use Rattle.robust_calls.specs.Asks.{asked_of, list_damaged, first_place}
+use Rattle.robust_calls.specs.Asks.{asked_of, list_damaged}
 use Rattle.robust_calls.specs.Resumes.{acquire_next, release_next, borrowed_next, find_next, recover_next, resumed_at}
-use Rattle.robust_unique_index_set.specs.Steps.{Shared, leaves, progress_after, saw_at, advanced, next_at, too_short, is_damaged, turn_verdict, opened_in, step_judged, stepped_from, step_of}
-use Rattle.robust_unique_index_set.specs.Starts.{start_tests, start_verdict, start_judged, entered_at, started_from, start_of}
+use Rattle.robust_unique_index_set.specs.Steps.{Shared, progress_after, saw_at, advanced, next_at, too_short, is_damaged, turn_verdict, opened_in, step_judged, stepped_from, step_of}
+use Rattle.robust_unique_index_set.specs.Starts.{start_tests, start_verdict, start_judged, started_from, start_of}
 use Rattle.robust_unique_index_set.specs.Setups.{too_large, setup_verdict, setup_judged, set_fresh, setup_of}
 use Rattle.robust_unique_index_set.specs.Drains.{not_drained, drain_judged, again, drain_of}
 use Rattle.robust_unique_index_set.proofs.Stays.{Ready, stepped}
@@ -67,7 +58,7 @@ setup_numbers_lem records capacity s t =
 abbrev pub start_numbers : List ℕ
 start_numbers = 3 ∷ 4 ∷ 10 ∷ 9 ∷ 11 ∷ 13 ∷ 5 ∷ 7 ∷ []
 
-start_failed : (records : ℕ) (who : RecordNumber) (capacity cells : ℕ) (a : Asked) (t : Record) (damaged : Bool) → FailedAmong start_numbers (start_tests records who capacity cells a t damaged)
+start_failed : (records : ℕ) (who : RecordNumber) (capacity cells : ℕ) (a : Option Asked) (t : Record) (damaged : Bool) → FailedAmong start_numbers (start_tests records who capacity cells a t damaged)
 start_failed records who capacity cells a t damaged (Capacity ProvidedCapacityGreaterThanMaxCapacity) e = refl
 start_failed records who capacity cells a t damaged (Capacity ProvidedCapacityIsZero) e = refl
 start_failed records who capacity cells a t damaged BufferTooShort e = refl
@@ -78,9 +69,9 @@ start_failed records who capacity cells a t damaged OwnerIsEmpty e = refl
 start_failed records who capacity cells a t damaged IndexOutOfRange e = refl
 start_failed records who capacity cells a t damaged IndexNotHeld e = e
 
-entered_among : (n : Beginning) (s : Shared) (t : Record) → RefusedAmong start_numbers (leaves (entered_at n s.set t) s.cells)
-entered_among (beginning.At p) s t = taken_among start_numbers (leaves (entered_at (beginning.At p) s.set t) s.cells) refl
-entered_among beginning.Nowhere s t = unchanged-among start_numbers s t NotKnown refl
+entered_among : (a : Option Asked) (s : Shared) (t : Record) → RefusedAmong start_numbers (started_from a s t)
+entered_among (Some a) s t = taken_among start_numbers (started_from (Some a) s t) refl
+entered_among None s t = unchanged-among start_numbers s t NotKnown refl
 
 pub start_numbers_lem : (records : ℕ) (who : RecordNumber) (request : Request) (s : Shared) (t : Record) → RefusedAmong start_numbers (start_of records who request s t)
 unfolding start_of start_verdict
@@ -88,12 +79,12 @@ start_numbers_lem records who request s t =
     judged_among start_numbers (start_judged records who request s t)
     (start_tests records who s.set.capacity (length s.cells) (asked_of request) t (list_damaged (call_read request.call) t.list)) s t (started_from (asked_of request) s t) refl
     (start_failed records who s.set.capacity (length s.cells) (asked_of request) t (list_damaged (call_read request.call) t.list))
-    (entered_among (first_place (asked_of request)) s t)
+    (entered_among (asked_of request) s t)
 
-stepped_among : (o : Opened) (s : Shared) (t : Record) → RefusedAmong step_numbers (stepped_from o s t)
+stepped_among : (o : Option Place) (s : Shared) (t : Record) → RefusedAmong step_numbers (stepped_from o s t)
 unfolding advanced
-stepped_among (At p) s t = taken_among step_numbers (advanced p t.list s) (next_taken (next_at p t.list s))
-stepped_among Damaged s t = unchanged-among step_numbers s t RecordDamaged refl
+stepped_among (Some p) s t = taken_among step_numbers (advanced p t.list s) (next_taken (next_at p t.list s))
+stepped_among None s t = unchanged-among step_numbers s t RecordDamaged refl
 
 pub step_numbers_lem : (records : ℕ) (who : RecordNumber) (s : Shared) (t : Record) → RefusedAmong step_numbers (step_of records who s t)
 unfolding step_of turn_verdict
@@ -128,32 +119,32 @@ answer_numbers call.Find = 0 ∷ []
 answer_numbers call.Recover = 0 ∷ []
 
 -- the call goes on as the same call, or answers with one of its numbers
-abbrev pub NextAmong : Call → Next → Type 0
-NextAmong c (Going q) = call_at q ≡ c
-NextAmong c (Answered a) = among (answer_number a) (answer_numbers c) ≡ true
+abbrev pub NextAmong : Call → ControlFlow Answer Place → Type 0
+NextAmong c (Continue q) = call_at q ≡ c
+NextAmong c (Break a) = among (answer_number a) (answer_numbers c) ≡ true
 
-acquire_among : (n : Acquiring) → NextAmong call.Acquire (acquire_next n)
-acquire_among (acquiring.Going p) = refl
-acquire_among (acquiring.Acquired i) = refl
-acquire_among (acquiring.Failed OutOfIndices) = refl
-acquire_among (acquiring.Failed IsLocked) = refl
+acquire_among : (n : ControlFlow (Result Index UniqueIndexSetAcquireFailure) AcquirePlace) → NextAmong call.Acquire (acquire_next n)
+acquire_among (Continue p) = refl
+acquire_among (Break (Ok i)) = refl
+acquire_among (Break (Err OutOfIndices)) = refl
+acquire_among (Break (Err IsLocked)) = refl
 
-release_among : (n : Releasing) → NextAmong call.Release (release_next n)
-release_among (releasing.Going p) = refl
-release_among (releasing.Released s) = refl
-release_among releasing.NotOwned = refl
+release_among : (n : ControlFlow (Result ReleaseState RobustUniqueIndexSetReleaseError) ReleasePlace) → NextAmong call.Release (release_next n)
+release_among (Continue p) = refl
+release_among (Break (Ok s)) = refl
+release_among (Break (Err e)) = refl
 
-borrowed_among : (n : Counted) → NextAmong call.BorrowedIndices (borrowed_next n)
-borrowed_among (counted.Going p) = refl
-borrowed_among (counted.Ended g m) = refl
+borrowed_among : (n : ControlFlow SetState CountPlace) → NextAmong call.BorrowedIndices (borrowed_next n)
+borrowed_among (Continue p) = refl
+borrowed_among (Break s) = refl
 
-find_among : (n : Finding) → NextAmong call.Find (find_next n)
-find_among (finding.Going p) = refl
-find_among (finding.Found m) = refl
+find_among : (n : ControlFlow ℕ FindPlace) → NextAmong call.Find (find_next n)
+find_among (Continue p) = refl
+find_among (Break m) = refl
 
-recover_among : (n : Recovering) → NextAmong call.Recover (recover_next n)
-recover_among (recovering.Going p) = refl
-recover_among (recovering.Recovered s) = refl
+recover_among : (n : ControlFlow ReleaseState RecoverPlace) → NextAmong call.Recover (recover_next n)
+recover_among (Continue p) = refl
+recover_among (Break s) = refl
 
 pub next_among : (capacity : ℕ) (p : Place) (list : OwnerList) (saw : Saw) → NextAmong (call_at p) (resumed_at capacity p list saw)
 next_among capacity (Acquire p) list saw = acquire_among (acquire_resumed capacity p saw)
@@ -163,9 +154,9 @@ next_among capacity LockedLook list saw = refl
 next_among capacity (Find p) list saw = find_among (find_resumed capacity p saw)
 next_among capacity (Recover p) list saw = recover_among (recover_resumed capacity p list saw)
 
-answered_among : (c : Call) (n : Next) (a : Answer) → NextAmong c n → progress_after n ≡ progress.Answered a → among (answer_number a) (answer_numbers c) ≡ true
-answered_among c (Going q) a e p = cc
-answered_among c (Answered b) a e p = rw (← same_answer b a p) e
+answered_among : (c : Call) (n : ControlFlow Answer Place) (a : Answer) → NextAmong c n → progress_after n ≡ progress.Answered a → among (answer_number a) (answer_numbers c) ≡ true
+answered_among c (Continue q) a e p = cc
+answered_among c (Break b) a e p = rw (← same_answer b a p) e
 
 -- what a ready record's step answers is one of its call's numbers
 pub step_answers : (records : ℕ) (who : RecordNumber) (s : Shared) (t : Record) (p : Place) (a : Answer) → Ready records who s t p

@@ -1,10 +1,7 @@
 -- What a sound place says of its cell: its access is within the cells. Assumes nothing.
-use Prim.Native.Nat.{ℕ, ◌≤◌, ◌<◌}
-use mathlib.Core.Path.{◌≡◌, refl}
-use mathlib.Core.Bool.{true}
-use lib.Dec.{ltb}
+use Rattle.std.proofs.Common.{◌≡◌, ℕ, ◌≤◌, ◌<◌, true, ltb, refl, ltb-true}
 use native.Mathlib.Nat.{lt_of_lt_of_le}
-use borrow.Author.Tests.{ltb-true, lt-ltb}
+use borrow.Author.Tests.{lt-ltb}
 use Rattle.unique_index_set_enums.specs.Robust.{is_empty, is_locked_at}
 use Rattle.unique_index_set_enums.proofs.Choice.{both_true, second_true}
 use Rattle.thread_records.specs.declared.OwnerList.{OwnerList}

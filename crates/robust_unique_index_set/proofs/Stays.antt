@@ -1,15 +1,13 @@
 -- A step that is accepted is the advance from the place at which its record opens; where it goes on, its record is ready again.
 -- Assumes nothing.
-use Prim.Native.Nat.{ℕ}
-use mathlib.Core.Path.{◌≡◌, refl}
-use mathlib.Core.Bool.{Bool, true, false, cond}
-use mathlib.Core.List.{List}
-use lib.ListN.{length, set, length-set}
-use lib.Dec.{ltb, eqb}
+use Rattle.std.proofs.Common.{◌≡◌, ℕ, Bool, true, false, cond, List, length, ltb, eqb, refl, Option, Some, None, Ok}
+use lib.ListN.{set, length-set}
+use Rattle.std.specs.declared.ops.ControlFlow.{ControlFlow}
+use Rattle.std.specs.declared.ops.ControlFlow.TheVariants.{Continue}
 use Rattle.unique_index_set_enums.specs.declared.RecordNumber.{RecordNumber}
 use Rattle.unique_index_set_enums.specs.Limits.{robust_capacity_limit}
+use Rattle.calls.specs.declared.Answer.{Answer}
 use Rattle.calls.specs.declared.Request.{Request}
-use Rattle.calls.specs.declared.Verdict.TheVariants.{Accepted}
 use Rattle.calls.specs.Numbers.{call_read}
 use Rattle.calls.proofs.Order.{accepted}
 use Rattle.thread_records.specs.declared.OwnerList.{OwnerList}
@@ -20,12 +18,8 @@ use Rattle.robust_moves.specs.declared.Access.{Access}
 use Rattle.robust_moves.specs.declared.Access.TheVariants.{Look, Exchange, Load, ExchangeCell}
 use Rattle.robust_places.specs.declared.Place.{Place}
 use Rattle.robust_places.specs.declared.Place.TheVariants.{LockedLook}
-use Rattle.robust_places.specs.declared.Opened.{Opened}
-use Rattle.robust_places.specs.declared.Opened.TheVariants.{At, Damaged}
 use Rattle.robust_places.specs.Places.{sound, closed_at}
 use Rattle.robust_places.proofs.Laws.{place_read_lem, read_busy, opened_closed, opened_sound}
-use Rattle.robust_calls.specs.declared.resumes.Next.{Next}
-use Rattle.robust_calls.specs.declared.resumes.Next.TheVariants.{Going}
 use Rattle.robust_calls.specs.Asks.{asked_of, list_damaged}
 use Rattle.robust_calls.proofs.Laws.{NextStays, next_stays}
 use Rattle.robust_unique_index_set.specs.Accesses.{owner_in, cells_after}
@@ -35,8 +29,8 @@ use Rattle.robust_unique_index_set.proofs.Accepted.{turn_passed, turn_roomy}
 
 -- the record's step is accepted, and its call opens at a place
 pub record Ready (records : ℕ) (who : RecordNumber) (s : Shared) (t : Record) (p : Place) : Type 0 where
-  pub judged : step_judged records who s t ≡ Accepted
-  pub opened : opened_in s t ≡ At p
+  pub judged : step_judged records who s t ≡ Ok tt
+  pub opened : opened_in s t ≡ Some p
 
 pub stepped : (records : ℕ) (who : RecordNumber) (s : Shared) (t : Record) (p : Place) → Ready records who s t p → step_of records who s t ≡ advanced p t.list s
 unfolding step_of
@@ -45,12 +39,12 @@ stepped records who s t p r = rw r.judged (rw r.opened refl)
 pub ready_sound : (records : ℕ) (who : RecordNumber) (s : Shared) (t : Record) (p : Place) → Ready records who s t p → sound s.set.capacity p t.list ≡ true
 ready_sound records who s t p r = opened_sound s.set.capacity t.call t.list p r.opened
 
-opened_or : (o : Opened) → is_damaged o ≡ false → (E : Type 0) → ((p : Place) → o ≡ At p → E) → E
-opened_or (At p) e E f = f p refl
-opened_or Damaged e E f = f LockedLook cc
+opened_or : (o : Option Place) → is_damaged o ≡ false → (E : Type 0) → ((p : Place) → o ≡ Some p → E) → E
+opened_or (Some p) e E f = f p refl
+opened_or None e E f = f LockedLook cc
 
 -- what is accepted is ready at the place at which it opens
-pub accepted_ready : (records : ℕ) (who : RecordNumber) (s : Shared) (t : Record) → step_judged records who s t ≡ Accepted
+pub accepted_ready : (records : ℕ) (who : RecordNumber) (s : Shared) (t : Record) → step_judged records who s t ≡ Ok tt
     → (E : Type 0) → ((p : Place) → Ready records who s t p → E) → E
 accepted_ready records who s t e E f =
     let a = turn_passed records who s.set.capacity (length s.cells) (opened_in s t) t false e in
@@ -71,10 +65,10 @@ cells_length (ExchangeCell i old new) cells = exchanged_length (eqb old.0 (owner
 abbrev pub Serves : ℕ → RecordNumber → Shared → Type 0
 Serves records who s = Lent (ltb robust_capacity_limit s.set.capacity) (eqb s.set.capacity 0) (too_short records s.set.capacity (length s.cells)) records who
 
-pub step_serves : (records : ℕ) (who : RecordNumber) (s : Shared) (t : Record) → step_judged records who s t ≡ Accepted → Serves records who s
+pub step_serves : (records : ℕ) (who : RecordNumber) (s : Shared) (t : Record) → step_judged records who s t ≡ Ok tt → Serves records who s
 step_serves records who s t e = turn_lent _ t records who refl (turn_passed records who s.set.capacity (length s.cells) (opened_in s t) t false e)
 
-pub start_serves : (records : ℕ) (who : RecordNumber) (request : Request) (s : Shared) (t : Record) → start_judged records who request s t ≡ Accepted → Serves records who s
+pub start_serves : (records : ℕ) (who : RecordNumber) (request : Request) (s : Shared) (t : Record) → start_judged records who request s t ≡ Ok tt → Serves records who s
 unfolding start_verdict
 start_serves records who request s t e =
     start_lent (start_tests records who s.set.capacity (length s.cells) (asked_of request) t (list_damaged (call_read request.call) t.list)) t records who refl (accepted _ e)
@@ -94,11 +88,11 @@ stays_served : (records : ℕ) (who : RecordNumber) (s : Shared) (p : Place) →
 unfolding shared_after
 stays_served records who s p l = record { above = l.above; zero = l.zero; short = simp cells_length l.short; here = l.here }
 
-going_sound : (capacity : ℕ) (list : OwnerList) (n : Next) (q : Place) → n ≡ Going q → NextStays capacity list n → sound capacity q list ≡ true
+going_sound : (capacity : ℕ) (list : OwnerList) (n : ControlFlow Answer Place) (q : Place) → n ≡ Continue q → NextStays capacity list n → sound capacity q list ≡ true
 going_sound capacity list n q e h = rw e at h
 
 -- a step that goes on leaves its record ready at the place it goes on to
-pub stays : (records : ℕ) (who : RecordNumber) (s : Shared) (t : Record) (p q : Place) → Ready records who s t p → next_at p t.list s ≡ Going q
+pub stays : (records : ℕ) (who : RecordNumber) (s : Shared) (t : Record) (p q : Place) → Ready records who s t p → next_at p t.list s ≡ Continue q
     → Ready records who (shared_after p s) (live_record (closed_at q) t.list) q
 unfolding shared_after
 stays records who s t p q r e =
