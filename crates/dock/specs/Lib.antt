@@ -2,4 +2,3 @@ pub mod Works
 pub mod Plain
 pub mod Robust
 pub mod Docks
-pub mod Lent

@@ -3,34 +3,24 @@
 -- A refused setup changes nothing, an accepted one leaves every record idle. Assumes nothing.
 use Prim.Native.Nat.{ℕ, ◌≤◌, ◌<◌}
 use mathlib.Core.Path.{◌≡◌, refl, sym, ap, ◌∙◌}
-use mathlib.Core.Bool.{true}
 use mathlib.Core.List.{List, [], ◌∷◌, map}
-use lib.ListN.{length, get_or, set, get_or-eq_default, replicate}
+use lib.ListN.{length, get_or, set, get_or-eq_default}
 use lib.Seq.{get_or-set_same, get_or-set_other, set-get_or, set_out}
+use Rattle.std.specs.Prelude.{Result, Ok, Err}
+use Rattle.std.proofs.lemmas.List.{map-id}
 use Rattle.unique_index_set_enums.specs.declared.RecordNumber.{RecordNumber}
 use Rattle.calls.specs.declared.Refusal.{Refusal}
 use Rattle.calls.specs.declared.Progress.TheVariants as progress
-use Rattle.calls.specs.declared.Verdict.{Verdict}
-use Rattle.calls.specs.declared.Verdict.TheVariants.{Accepted, Refused}
 use Rattle.calls.specs.Runs.{Run}
 use Rattle.thread_records.specs.declared.Record.{Record}
 use Rattle.thread_records.specs.Records.{empty_list, idle_record}
 use Rattle.thread_records.specs.Effects.{Effect, judged}
-use Rattle.thread_records.proofs.Effects.{Harmless, taken}
+use Rattle.turns.specs.Moves.{Untouched, SetsUp, set_fresh}
 use Rattle.turns.specs.Docks.{Table, Turned, elsewhere, settled, named, turned_table, turn_in, setup_in}
-
-pub same_map : (f : Record → Record) → ((t : Record) → f t ≡ t) → (records : List Record) → map f records ≡ records
-same_map f e [] = refl
-same_map f e (t ∷ records) = rw (e t) (ap (λ (l : List Record). t ∷ l) (same_map f e records))
-
--- one and the same in place of each
-pub every : (t : Record) (records : List Record) → replicate (length records) t ≡ map (λ u. t) records
-every t [] = refl
-every t (u ∷ records) = ap (λ (l : List Record). t ∷ l) (every t records)
 
 module _ {S : Type 0} (who : RecordNumber) (e : Effect S) (records : List Record) where
   elsewhere_same : map (elsewhere e) records ≡ records
-  elsewhere_same = same_map (elsewhere e) (λ t. refl) records
+  elsewhere_same = map-id records
 
   settled_as : settled who e records ≡ set records who.0 e.thread
   unfolding settled
@@ -80,17 +70,38 @@ same_table s records d p q = rw p (rw q refl)
 
 -- a refused turn changes nothing
 pub turn_unchanged : {S : Type 0} (own : ℕ → S → Record → Run (Effect S)) (who : RecordNumber) (d : Table S)
-    → Harmless d.shared (named who d.records) (own (length d.records) d.shared (named who d.records)).left
+    → Untouched d.shared (named who d.records) (own (length d.records) d.shared (named who d.records)).left
     → (why : Refusal) → (turn_in own who d).report.progress ≡ progress.Refused why → (turn_in own who d).left ≡ d
 turn_unchanged own who d h why p =
     let u = h why p in
-    same_table _ _ d u.shared (settled_same who (own (length d.records) d.shared (named who d.records)).left d.records u.thread)
+    same_table _ _ d u.0 (settled_same who (own (length d.records) d.shared (named who d.records)).left d.records u.1)
 
--- a setup that its verdict refuses changes nothing, and one that it accepts leaves every record as the setup leaves one
-pub setup_unchanged : {S : Type 0} (v : Verdict) (e : Effect S) (d : Table S) → taken e.report.progress ≡ true → (why : Refusal)
-    → (setup_in (λ n s t. judged v s t e) d).report.progress ≡ progress.Refused why → (setup_in (λ n s t. judged v s t e) d).left ≡ d
-setup_unchanged (Refused w) e d k why p = same_table _ _ d refl (same_map (λ t. t) (λ t. refl) d.records)
-setup_unchanged Accepted e d k why p = let z : taken (progress.Refused why) ≡ true = rw p at k in cc
+each_same : (f g : Record → Record) → ((t : Record) → f t ≡ g t) → (records : List Record) → map f records ≡ map g records
+each_same f g e [] = refl
+each_same f g e (t ∷ records) = rw (e t) (ap (λ (l : List Record). g t ∷ l) (each_same f g e records))
 
-pub setup_each : {S : Type 0} (v : Verdict) (e : Effect S) (d : Table S) → v ≡ Accepted → (setup_in (λ n s t. judged v s t e) d).left.records ≡ map (λ t. e.thread) d.records
-setup_each v e d q = rw q refl
+-- a setup, where it is judged without the record
+module _ {S : Type 0} (own : ℕ → S → Record → Effect S) (d : Table S) (u : SetsUp d.shared (own (length d.records) d.shared)) where
+  -- whoever keeps the table: an accepted one leaves each record idle, a refused one each as it was
+  pub setup_as : setup_in own d ≡ setup_in (λ n s t. judged u.verdict s t (set_fresh u.fresh)) d
+  setup_as =
+      rw (u.same (idle_record empty_list))
+      (ap (λ (l : List Record). record { left = record { shared = (judged u.verdict d.shared (idle_record empty_list) (set_fresh u.fresh)).shared; records = l }; report = (judged u.verdict d.shared (idle_record empty_list) (set_fresh u.fresh)).report; steps = 0 })
+      (each_same (λ t. (own (length d.records) d.shared t).thread) (λ t. (judged u.verdict d.shared t (set_fresh u.fresh)).thread) (λ t. ap (λ (e : Effect S). e.thread) (u.same t)) d.records))
+
+judged_unchanged : {S : Type 0} (v : Result (Unit {0}) Refusal) (fresh : S) (d : Table S) (why : Refusal)
+    → (setup_in (λ n s t. judged v s t (set_fresh fresh)) d).report.progress ≡ progress.Refused why → (setup_in (λ n s t. judged v s t (set_fresh fresh)) d).left ≡ d
+judged_unchanged (Err w) fresh d why p = same_table _ _ d refl (map-id d.records)
+judged_unchanged (Ok u) fresh d why p = cc
+
+-- refused, it changes nothing
+pub setup_unchanged : {S : Type 0} (own : ℕ → S → Record → Effect S) (d : Table S) → SetsUp d.shared (own (length d.records) d.shared)
+    → (why : Refusal) → (setup_in own d).report.progress ≡ progress.Refused why → (setup_in own d).left ≡ d
+setup_unchanged own d u why p =
+    let e = setup_as own d u in
+    ap (λ (r : Turned (Table _)). r.left) e ∙ judged_unchanged u.verdict u.fresh d why (sym (ap (λ (r : Turned (Table _)). r.report.progress) e) ∙ p)
+
+-- accepted, it leaves every record idle
+pub setup_each : {S : Type 0} (own : ℕ → S → Record → Effect S) (d : Table S) (u : SetsUp d.shared (own (length d.records) d.shared)) → u.verdict ≡ Ok tt
+    → (setup_in own d).left.records ≡ map (λ t. idle_record empty_list) d.records
+setup_each own d u q = ap (λ (r : Turned (Table _)). r.left.records) (setup_as own d u) ∙ rw q refl

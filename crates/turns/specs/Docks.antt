@@ -4,7 +4,6 @@ use Rattle.std.specs.Prelude.{ℕ, List, map, length, get_or, set}
 use Rattle.unique_index_set_enums.specs.declared.RecordNumber.{RecordNumber}
 use Rattle.calls.specs.declared.Report.{Report}
 use Rattle.calls.specs.Runs.{Run}
-use Rattle.thread_records.specs.declared.OwnerList.{OwnerList}
 use Rattle.thread_records.specs.declared.Record.{Record}
 use Rattle.thread_records.specs.Records.{empty_list, idle_record}
 use Rattle.thread_records.specs.Effects.{Effect}
@@ -21,6 +20,7 @@ pub record Table (S : Type 0) : Type 0 where
   pub shared : S
   pub records : List Record
 
+-- a dock as it is left (`take_turn` gives what is left of a record)
 pub record Turned (D : Type 0) : Type 0 where
   pub left : D
   pub report : Report
@@ -68,10 +68,10 @@ pub data Dock : Type 0 where
 abbrev pub docked : {S : Type 0} → (Table S → Dock) → Turned (Table S) → Turned Dock
 docked into r = record { left = into r.left; report = r.report; steps = r.steps }
 
--- what one operation for one record number does to a dock; an owner list stands beside it
-abbrev pub turn : RecordNumber → Operation → OwnerList → Dock → Turned Dock
-turn who operation brought (plain_dock d) = docked plain_dock (turn_in (λ records s t. plain_turn_of records who operation brought s t) who d)
-turn who operation brought (robust_dock d) = docked robust_dock (turn_in (λ records s t. robust_turn_of records who operation brought s t) who d)
+-- what one operation for one record number does to a dock
+abbrev pub turn : RecordNumber → Operation → Dock → Turned Dock
+turn who operation (plain_dock d) = docked plain_dock (turn_in (λ records s t. plain_turn_of records who operation s t) who d)
+turn who operation (robust_dock d) = docked robust_dock (turn_in (λ records s t. robust_turn_of records who operation s t) who d)
 
 abbrev pub set_up : ℕ → Dock → Turned Dock
 set_up capacity (plain_dock d) = docked plain_dock (setup_in (λ records s t. plainsetup.setup_of records capacity s t) d)
