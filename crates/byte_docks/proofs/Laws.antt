@@ -22,46 +22,47 @@ use Rattle.thread_records.specs.Records.{empty_list, idle_record}
 use Rattle.thread_records.specs.Effects.{Effect}
 use Rattle.thread_records.specs.Deaths.{death_of}
 use Rattle.thread_records.specs.Lists.{list_of}
-use Rattle.thread_records.proofs.Effects.{Harmless}
 use Rattle.thread_records.proofs.Determined.{determined}
+use Rattle.unique_index_set.specs.declared.UniqueIndexSet.{UniqueIndexSet}
 use Rattle.unique_index_set.specs.Steps as plain
+use Rattle.robust_unique_index_set.specs.declared.RobustUniqueIndexSet.{RobustUniqueIndexSet}
 use Rattle.robust_unique_index_set.specs.Steps as robust
 use Rattle.turns.specs.declared.Operation.{Operation}
-use Rattle.turns.specs.declared.plain.PlainOutcome.{PlainOutcome}
-use Rattle.turns.specs.declared.robust.RobustOutcome.{RobustOutcome}
-use Rattle.turns.specs.Plain.{plain_turn_of}
-use Rattle.turns.specs.Robust.{robust_turn_of}
+use Rattle.turns.specs.declared.Done.{Done}
+use Rattle.turns.specs.Moves.{Moves, MovesLaws, turn_of}
+use Rattle.turns.specs.Plain.{plain_moves, plain_turn_of}
+use Rattle.turns.specs.Robust.{robust_moves, robust_turn_of}
+use Rattle.turns.specs.Laws.{plain_laws, robust_laws}
 use Rattle.turns.specs.Docks.{Table, Turned, turn_in}
-use Rattle.turns.proofs.Laws as turnlaws
+use Rattle.turns.proofs.Laws.{moves_untouched}
 use Rattle.turns.proofs.Tables as tables
 use Rattle.record_bytes.specs.Layout.{Fits, records_in, table_of, laid_at, record_written}
 use Rattle.record_bytes.proofs.Laid.{laid_before, laid_behind}
 use Rattle.record_bytes.proofs.Tables.{in_table, length_all_of, table_written}
-use Rattle.byte_docks.specs.Called.{Called, RecordsAlone, named, records_after, called_by, died_in, listed_in}
-use Rattle.byte_docks.specs.Plain.{plain_came, plain_called, PlainFits}
-use Rattle.byte_docks.specs.Robust.{robust_came, robust_called, RobustFits}
+use Rattle.byte_docks.specs.Called.{Called, RecordsAlone, named, records_after, came_as, called_in, TurnFits, died_in, listed_in}
+use Rattle.byte_docks.specs.Plain.{plain_called, PlainFits}
+use Rattle.byte_docks.specs.Robust.{robust_called, RobustFits}
 
 -- what a refused call leaves
 pub record Unmoved {S : Type 0} (s : S) (bytes : List ℕ) (c : Called S) : Type 0 where
   pub shared : c.shared ≡ s
   pub records : c.records ≡ bytes
 
-called_harmless : {S : Type 0} (who : RecordNumber) (bytes : List ℕ) (s : S) (u : Run (Effect S)) → Harmless s (named who bytes) u.left
-    → (why : Refusal) → u.left.report.progress ≡ progress.Refused why → Unmoved s bytes (called_by who bytes u)
-called_harmless who bytes s u harmless why p = record {
-  shared = (harmless why p).shared;
-  records = ap (λ (q : Progress). records_after q who u.left.thread bytes) p;
+-- of whichever set
+pub called_refused : {S : Type 0} (m : Moves S) → MovesLaws m → (who : RecordNumber) (o : Operation) (s : S) (bytes : List ℕ) (why : Refusal)
+    → (called_in m who o s bytes).report.progress ≡ progress.Refused why → Unmoved s bytes (called_in m who o s bytes)
+called_refused m laws who o s bytes why p = record {
+  shared = (moves_untouched m laws (records_in bytes) who o s (named who bytes) why p).0;
+  records = ap (λ (q : Progress). records_after q who (turn_of m (records_in bytes) who o s (named who bytes)).left.thread bytes) p;
 }
 
-pub plain_refused : (who : RecordNumber) (o : Operation) (brought : OwnerList) (s : plain.Shared) (bytes : List ℕ) (why : Refusal)
-    → (plain_called who o brought s bytes).report.progress ≡ progress.Refused why → Unmoved s bytes (plain_called who o brought s bytes)
-plain_refused who o brought s bytes why p =
-    called_harmless who bytes s _ (turnlaws.plain_harmless (records_in bytes) who o brought s (named who bytes)) why p
+pub plain_refused : (who : RecordNumber) (o : Operation) (s : plain.Shared) (bytes : List ℕ) (why : Refusal)
+    → (plain_called who o s bytes).report.progress ≡ progress.Refused why → Unmoved s bytes (plain_called who o s bytes)
+plain_refused = called_refused plain_moves plain_laws
 
-pub robust_refused : (who : RecordNumber) (o : Operation) (brought : OwnerList) (s : robust.Shared) (bytes : List ℕ) (why : Refusal)
-    → (robust_called who o brought s bytes).report.progress ≡ progress.Refused why → Unmoved s bytes (robust_called who o brought s bytes)
-robust_refused who o brought s bytes why p =
-    called_harmless who bytes s _ (turnlaws.robust_harmless (records_in bytes) who o brought s (named who bytes)) why p
+pub robust_refused : (who : RecordNumber) (o : Operation) (s : robust.Shared) (bytes : List ℕ) (why : Refusal)
+    → (robust_called who o s bytes).report.progress ≡ progress.Refused why → Unmoved s bytes (robust_called who o s bytes)
+robust_refused = called_refused robust_moves robust_laws
 
 -- nor does a refused death or list
 pub death_refused : (who : RecordNumber) (bytes : List ℕ) (why : Refusal) → (died_in who bytes).report.progress ≡ progress.Refused why → (died_in who bytes).records ≡ bytes
@@ -106,44 +107,44 @@ table_after (progress.Refused why) who t bytes h fits same =
 abbrev pub as_table : {S : Type 0} → Called S → Turned (Table S)
 as_table c = record { left = record { shared = c.shared; records = table_of c.records }; report = c.report; steps = c.steps }
 
-turns_table : {S : Type 0} (own : ℕ → S → Record → Run (Effect S)) (who : RecordNumber) (s : S) (bytes : List ℕ) → who.0 < records_in bytes
-    → Harmless s (named who bytes) (own (records_in bytes) s (named who bytes)).left → Fits (own (records_in bytes) s (named who bytes)).left.thread
-    → as_table (called_by who bytes (own (records_in bytes) s (named who bytes))) ≡ turn_in own who (record { shared = s; records = table_of bytes })
-turns_table own who s bytes h harmless fits =
+-- a call of a record that is there is its turn in that table, if the record that it leaves fits its bytes
+pub turns_table : {S : Type 0} (m : Moves S) → MovesLaws m → (who : RecordNumber) (o : Operation) (s : S) (bytes : List ℕ) → who.0 < records_in bytes
+    → TurnFits m who o s bytes → as_table (called_in m who o s bytes) ≡ turn_in (λ n z t. turn_of m n who o z t) who (record { shared = s; records = table_of bytes })
+turns_table m laws who o s bytes h fits =
+    let own : ℕ → _ → Record → Run (Effect _) = λ n z t. turn_of m n who o z t in
     let u = own (records_in bytes) s (named who bytes) in
     let counted : records_in bytes ≡ length (table_of bytes) = sym (length_all_of bytes) in
     let read : named who bytes ≡ get_or (table_of bytes) who.0 (idle_record empty_list) = sym (in_table bytes who.0 (idle_record empty_list) h) in
     ap (λ (l : List Record). record { left = record { shared = u.left.shared; records = l }; report = u.left.report; steps = u.steps })
-    (table_after u.left.report.progress who u.left.thread bytes h fits (λ why p. (harmless why p).thread))
+    (table_after u.left.report.progress who u.left.thread bytes h fits (λ why p. (moves_untouched m laws (records_in bytes) who o s (named who bytes) why p).1))
     ∙ tables.there own who s (table_of bytes) u who.0 refl (ap (λ (n : ℕ). own n s (named who bytes)) counted ∙ ap (own (length (table_of bytes)) s) read)
 
--- a call of a record that is there is its turn in that table, if the record that it leaves fits its bytes
-pub plain_turns : (who : RecordNumber) (o : Operation) (brought : OwnerList) (s : plain.Shared) (bytes : List ℕ) → who.0 < records_in bytes
-    → PlainFits who o brought s bytes
-    → as_table (plain_called who o brought s bytes) ≡ turn_in (λ n z t. plain_turn_of n who o brought z t) who (record { shared = s; records = table_of bytes })
-plain_turns who o brought s bytes h fits =
-    turns_table (λ n z t. plain_turn_of n who o brought z t) who s bytes h (turnlaws.plain_harmless (records_in bytes) who o brought s (named who bytes)) fits
+pub plain_turns : (who : RecordNumber) (o : Operation) (s : plain.Shared) (bytes : List ℕ) → who.0 < records_in bytes → PlainFits who o s bytes
+    → as_table (plain_called who o s bytes) ≡ turn_in (λ n z t. plain_turn_of n who o z t) who (record { shared = s; records = table_of bytes })
+plain_turns = turns_table plain_moves plain_laws
 
-pub robust_turns : (who : RecordNumber) (o : Operation) (brought : OwnerList) (s : robust.Shared) (bytes : List ℕ) → who.0 < records_in bytes
-    → RobustFits who o brought s bytes
-    → as_table (robust_called who o brought s bytes) ≡ turn_in (λ n z t. robust_turn_of n who o brought z t) who (record { shared = s; records = table_of bytes })
-robust_turns who o brought s bytes h fits =
-    turns_table (λ n z t. robust_turn_of n who o brought z t) who s bytes h (turnlaws.robust_harmless (records_in bytes) who o brought s (named who bytes)) fits
+pub robust_turns : (who : RecordNumber) (o : Operation) (s : robust.Shared) (bytes : List ℕ) → who.0 < records_in bytes → RobustFits who o s bytes
+    → as_table (robust_called who o s bytes) ≡ turn_in (λ n z t. robust_turn_of n who o z t) who (record { shared = s; records = table_of bytes })
+robust_turns = turns_table robust_moves robust_laws
 
--- any two results are the same: of plain_byte_turn and plain_setup, of robust_byte_turn and robust_setup, of death and list
-abbrev plain_back : Called plain.Shared → PlainOutcome × List ℕ × List ℕ × List ℕ
-plain_back c = (record { set = c.shared.set; report = c.report; steps = c.steps }, c.records, c.shared.slots, c.shared.custody)
+-- any two results are the same: of byte_turn and byte_setup on each dock, of death and list
+abbrev plain_left : Done × List ℕ × UniqueIndexSet × List ℕ × List ℕ → Called plain.Shared
+plain_left x = came_as (plain.shared x.2 x.3 x.4) x.1 x.0
 
-pub plain_determined : (c : Called plain.Shared) (x y : PlainOutcome × List ℕ × List ℕ × List ℕ) → plain_came x.0 x.1 x.2 x.3 ≡ c
-    → plain_came y.0 y.1 y.2 y.3 ≡ c → x ≡ y
-plain_determined = determined (λ x. plain_came x.0 x.1 x.2 x.3) plain_back (λ x. refl)
+abbrev plain_back : Called plain.Shared → Done × List ℕ × UniqueIndexSet × List ℕ × List ℕ
+plain_back c = (record { report = c.report; steps = c.steps }, c.records, c.shared.set, c.shared.slots, c.shared.custody)
 
-abbrev robust_back : Called robust.Shared → RobustOutcome × List ℕ × List ℕ
-robust_back c = (record { set = c.shared.set; report = c.report; steps = c.steps }, c.records, c.shared.cells)
+pub plain_determined : (c : Called plain.Shared) (x y : Done × List ℕ × UniqueIndexSet × List ℕ × List ℕ) → plain_left x ≡ c → plain_left y ≡ c → x ≡ y
+plain_determined = determined plain_left plain_back (λ x. refl)
 
-pub robust_determined : (c : Called robust.Shared) (x y : RobustOutcome × List ℕ × List ℕ) → robust_came x.0 x.1 x.2 ≡ c
-    → robust_came y.0 y.1 y.2 ≡ c → x ≡ y
-robust_determined = determined (λ x. robust_came x.0 x.1 x.2) robust_back (λ x. refl)
+abbrev robust_left : Done × List ℕ × RobustUniqueIndexSet × List ℕ → Called robust.Shared
+robust_left x = came_as (robust.shared x.2 x.3) x.1 x.0
+
+abbrev robust_back : Called robust.Shared → Done × List ℕ × RobustUniqueIndexSet × List ℕ
+robust_back c = (record { report = c.report; steps = c.steps }, c.records, c.shared.set, c.shared.cells)
+
+pub robust_determined : (c : Called robust.Shared) (x y : Done × List ℕ × RobustUniqueIndexSet × List ℕ) → robust_left x ≡ c → robust_left y ≡ c → x ≡ y
+robust_determined = determined robust_left robust_back (λ x. refl)
 
 abbrev alone : Report × List ℕ → RecordsAlone
 alone x = record { records = x.1; report = x.0 }

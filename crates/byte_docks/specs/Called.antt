@@ -12,7 +12,11 @@ use Rattle.thread_records.specs.declared.RecordAfter.{RecordAfter}
 use Rattle.thread_records.specs.Effects.{Effect}
 use Rattle.thread_records.specs.Deaths.{death_of}
 use Rattle.thread_records.specs.Lists.{list_of}
-use Rattle.record_bytes.specs.Layout.{record_at, records_in, record_written, all_written}
+use Rattle.thread_records.specs.Records.{empty_list, idle_record}
+use Rattle.turns.specs.declared.Done.{Done}
+use Rattle.turns.specs.declared.Operation.{Operation}
+use Rattle.turns.specs.Moves.{Moves, turn_of}
+use Rattle.record_bytes.specs.Layout.{Fits, record_at, records_in, record_written, all_written}
 
 pub record Called (S : Type 0) : Type 0 where
   pub shared : S
@@ -52,6 +56,21 @@ ready_for bytes e = record {
   report = e.report;
   steps = 0;
 }
+
+-- what a call tells, with what is lent as it leaves it
+abbrev pub came_as : {S : Type 0} → S → List ℕ → Done → Called S
+came_as s bytes r = record { shared = s; records = bytes; report = r.report; steps = r.steps }
+
+-- each call is the set's own turn or setup
+abbrev pub called_in : {S : Type 0} → Moves S → RecordNumber → Operation → S → List ℕ → Called S
+called_in m who operation s bytes = called_by who bytes (turn_of m (records_in bytes) who operation s (named who bytes))
+
+-- the record that it leaves fits its bytes
+abbrev pub TurnFits : {S : Type 0} → Moves S → RecordNumber → Operation → S → List ℕ → Type 0
+TurnFits m who operation s bytes = Fits (turn_of m (records_in bytes) who operation s (named who bytes)).left.thread
+
+abbrev pub readied_in : {S : Type 0} → Moves S → ℕ → S → List ℕ → Called S
+readied_in m capacity s bytes = ready_for bytes (m.setup (records_in bytes) capacity s (idle_record empty_list))
 
 -- what touches the record alone: the table, and the report
 pub record RecordsAlone : Type 0 where

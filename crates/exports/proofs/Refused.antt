@@ -8,7 +8,6 @@ use Rattle.calls.specs.declared.Progress.{Progress}
 use Rattle.calls.specs.declared.Progress.TheVariants.{Accepted, Answered, Refused}
 use Rattle.calls.specs.declared.Refusal.{Refusal}
 use Rattle.calls.specs.declared.SetKind.TheVariants as kind
-use Rattle.thread_records.specs.Records.{empty_list}
 use Rattle.unique_index_set.specs.Steps as plain
 use Rattle.robust_unique_index_set.specs.Steps as robust
 use Rattle.turns.specs.declared.Operation.{Operation}
@@ -37,12 +36,12 @@ robust_setup_unmoved asked s bytes e = refused_number _ e (robust_setup_refused 
 
 -- of every start, step and drain
 pub plain_unmoved : (who : RecordNumber) (o : Operation) (s : plain.Shared) (bytes : List ℕ)
-    → (told_of (plain_called who o empty_list s bytes).report.progress).progress ≡ 2 → Unmoved s bytes (plain_called who o empty_list s bytes)
-plain_unmoved who o s bytes e = refused_number _ e (plain_refused who o empty_list s bytes)
+    → (told_of (plain_called who o s bytes).report.progress).progress ≡ 2 → Unmoved s bytes (plain_called who o s bytes)
+plain_unmoved who o s bytes e = refused_number _ e (plain_refused who o s bytes)
 
 pub robust_unmoved : (who : RecordNumber) (o : Operation) (s : robust.Shared) (bytes : List ℕ)
-    → (told_of (robust_called who o empty_list s bytes).report.progress).progress ≡ 2 → Unmoved s bytes (robust_called who o empty_list s bytes)
-robust_unmoved who o s bytes e = refused_number _ e (robust_refused who o empty_list s bytes)
+    → (told_of (robust_called who o s bytes).report.progress).progress ≡ 2 → Unmoved s bytes (robust_called who o s bytes)
+robust_unmoved who o s bytes e = refused_number _ e (robust_refused who o s bytes)
 
 -- of a death, and of the lists
 pub death_unmoved : (who : RecordNumber) (bytes : List ℕ) → (records_left (died_in who bytes)).outcome.progress ≡ 2 → (died_in who bytes).records ≡ bytes

@@ -1,8 +1,8 @@
 -- What a call comes back with, as numbers: its progress (0 accepted, 1 answered, 2 refused) with the paper's number and value, what it notes
 -- (0 nothing, 1 found, 2 freed) with the index and the owner, and the steps taken.
-use Rattle.std.specs.Prelude.{ℕ, List}
-use Rattle.calls.specs.declared.Noted as noted
-use Rattle.calls.specs.declared.Noted.TheVariants.{Nothing, Found, Freed}
+use Rattle.std.specs.Prelude.{ℕ, List, Option, None, Some}
+use Rattle.calls.specs.declared.Note.{Note}
+use Rattle.calls.specs.declared.Note.TheVariants.{Found, Freed}
 use Rattle.calls.specs.declared.Progress.{Progress}
 use Rattle.calls.specs.declared.Progress.TheVariants.{Accepted, Answered, Refused}
 use Rattle.calls.specs.declared.Report.{Report}
@@ -17,10 +17,10 @@ told_of Accepted = record { progress = 0; number = 0; value = 0 }
 told_of (Answered a) = record { progress = 1; number = answer_number a; value = answer_value a }
 told_of (Refused why) = record { progress = 2; number = refusal_number why; value = 0 }
 
-abbrev pub noted_of : noted.Noted → NotedNumbers
-noted_of Nothing = record { noted = 0; index = 0; owner = 0 }
-noted_of (Found i) = record { noted = 1; index = i.0; owner = 0 }
-noted_of (Freed i o) = record { noted = 2; index = i.0; owner = o.0 }
+abbrev pub noted_of : Option Note → NotedNumbers
+noted_of None = record { noted = 0; index = 0; owner = 0 }
+noted_of (Some (Found i)) = record { noted = 1; index = i.0; owner = 0 }
+noted_of (Some (Freed i o)) = record { noted = 2; index = i.0; owner = o.0 }
 
 abbrev pub outcome_of : Report → ℕ → Outcome
 outcome_of r steps = record {

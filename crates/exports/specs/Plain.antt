@@ -2,7 +2,6 @@
 use Rattle.std.specs.Prelude.{ℕ, List}
 use Rattle.unique_index_set_enums.specs.declared.RecordNumber.{RecordNumber}
 use Rattle.calls.specs.declared.SetKind.TheVariants as kind
-use Rattle.thread_records.specs.Records.{empty_list}
 use Rattle.unique_index_set.specs.Steps.{Shared, shared}
 use Rattle.turns.specs.declared.Operation.TheVariants.{Step, Drain}
 use Rattle.byte_docks.specs.Called.{Called, listed_in}
@@ -69,23 +68,23 @@ abbrev pub plain_ready : ℕ → Shared → List ℕ → PlainReady
 plain_ready asked s bytes = with_outcome plain_set (plain_readied asked s bytes)
 
 abbrev pub plain_start : RecordNumber → ℕ → ℕ → ℕ → ℕ → Shared → List ℕ → PlainStarted
-plain_start who call at o mode s bytes = with_outcome plain_begun (plain_called who (start_asked call at o mode) empty_list s bytes)
+plain_start who call at o mode s bytes = with_outcome plain_begun (plain_called who (start_asked call at o mode) s bytes)
 
 abbrev pub plain_step : RecordNumber → Shared → List ℕ → PlainStepped
-plain_step who s bytes = with_outcome plain_moved (plain_called who Step empty_list s bytes)
+plain_step who s bytes = with_outcome plain_moved (plain_called who Step s bytes)
 
 abbrev pub plain_drain : RecordNumber → ℕ → Shared → List ℕ → PlainStepped
-plain_drain who budget s bytes = with_outcome plain_moved (plain_called who (Drain budget) empty_list s bytes)
+plain_drain who budget s bytes = with_outcome plain_moved (plain_called who (Drain budget) s bytes)
 
 abbrev pub plain_list : RecordNumber → List ℕ → List ℕ → RecordsLeft
 plain_list who owners bytes = records_left (listed_in kind.Plain who (brought_in owners) bytes)
 
 -- the record that a start, a step or a drain leaves fits its bytes
 abbrev pub PlainStartFits : RecordNumber → ℕ → ℕ → ℕ → ℕ → Shared → List ℕ → Type 0
-PlainStartFits who call at o mode s bytes = PlainFits who (start_asked call at o mode) empty_list s bytes
+PlainStartFits who call at o mode s bytes = PlainFits who (start_asked call at o mode) s bytes
 
 abbrev pub PlainStepFits : RecordNumber → Shared → List ℕ → Type 0
-PlainStepFits who s bytes = PlainFits who Step empty_list s bytes
+PlainStepFits who s bytes = PlainFits who Step s bytes
 
 abbrev pub PlainDrainFits : RecordNumber → ℕ → Shared → List ℕ → Type 0
-PlainDrainFits who budget s bytes = PlainFits who (Drain budget) empty_list s bytes
+PlainDrainFits who budget s bytes = PlainFits who (Drain budget) s bytes

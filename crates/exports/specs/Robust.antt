@@ -3,7 +3,6 @@ use Rattle.std.specs.Prelude.{ℕ, List}
 use Rattle.unique_index_set_enums.specs.declared.RecordNumber.{RecordNumber}
 use Rattle.unique_index_set_enums.specs.Kinds.{generation}
 use Rattle.calls.specs.declared.SetKind.TheVariants as kind
-use Rattle.thread_records.specs.Records.{empty_list}
 use Rattle.robust_unique_index_set.specs.Steps.{Shared, shared}
 use Rattle.turns.specs.declared.Operation.TheVariants.{Step, Drain}
 use Rattle.byte_docks.specs.Called.{Called, listed_in}
@@ -64,23 +63,23 @@ abbrev pub robust_ready : ℕ → Shared → List ℕ → RobustReady
 robust_ready asked s bytes = with_outcome robust_set (robust_readied asked s bytes)
 
 abbrev pub robust_start : RecordNumber → ℕ → ℕ → ℕ → ℕ → Shared → List ℕ → RobustStarted
-robust_start who call at o mode s bytes = with_outcome robust_begun (robust_called who (start_asked call at o mode) empty_list s bytes)
+robust_start who call at o mode s bytes = with_outcome robust_begun (robust_called who (start_asked call at o mode) s bytes)
 
 abbrev pub robust_step : RecordNumber → Shared → List ℕ → RobustStepped
-robust_step who s bytes = with_outcome robust_moved (robust_called who Step empty_list s bytes)
+robust_step who s bytes = with_outcome robust_moved (robust_called who Step s bytes)
 
 abbrev pub robust_drain : RecordNumber → ℕ → Shared → List ℕ → RobustStepped
-robust_drain who budget s bytes = with_outcome robust_moved (robust_called who (Drain budget) empty_list s bytes)
+robust_drain who budget s bytes = with_outcome robust_moved (robust_called who (Drain budget) s bytes)
 
 abbrev pub robust_list : RecordNumber → List ℕ → List ℕ → RecordsLeft
 robust_list who owners bytes = records_left (listed_in kind.Robust who (brought_in owners) bytes)
 
 -- the record that a start, a step or a drain leaves fits its bytes
 abbrev pub RobustStartFits : RecordNumber → ℕ → ℕ → ℕ → ℕ → Shared → List ℕ → Type 0
-RobustStartFits who call at o mode s bytes = RobustFits who (start_asked call at o mode) empty_list s bytes
+RobustStartFits who call at o mode s bytes = RobustFits who (start_asked call at o mode) s bytes
 
 abbrev pub RobustStepFits : RecordNumber → Shared → List ℕ → Type 0
-RobustStepFits who s bytes = RobustFits who Step empty_list s bytes
+RobustStepFits who s bytes = RobustFits who Step s bytes
 
 abbrev pub RobustDrainFits : RecordNumber → ℕ → Shared → List ℕ → Type 0
-RobustDrainFits who budget s bytes = RobustFits who (Drain budget) empty_list s bytes
+RobustDrainFits who budget s bytes = RobustFits who (Drain budget) s bytes

@@ -1,4 +1,4 @@
-// The calls of a plain set.
+//! The calls of a plain set.
 ghost use Rattle.std.specs.Prelude.{◌≡◌};
 ghost use Rattle.unique_index_set_enums.specs.Kinds.{record_number};
 ghost use Rattle.exports.specs.Outcomes.{RecordsLeft, records_left};
@@ -6,14 +6,13 @@ ghost use Rattle.exports.specs.Plain.{PlainReady, PlainStarted, PlainStepped, pl
 
 use crate::brought::brought;
 use crate::outcomes::{Outcome, outcome_of};
-use byte_docks::{list, plain_byte_turn, plain_setup};
+use byte_docks::{byte_setup, byte_turn, list};
 use calls::{Request, SetKind};
-use thread_records::empty_list;
-use turns::Operation;
+use turns::{Operation, PlainDock};
 use unique_index_set::UniqueIndexSet;
 use unique_index_set_enums::{OwnerId, RecordNumber};
 
-// An accepted setup leaves the capacity asked and a fresh head word.
+/// An accepted setup leaves the capacity asked and a fresh head word.
 #[unsafe(no_mangle)]
 pub extern "C" fn husk_plain_setup(
     capacity: &mut u32,
@@ -29,15 +28,18 @@ pub extern "C" fn husk_plain_setup(
         capacity: *capacity,
         head: *head,
     };
-    let came = plain_setup(records, slots, custody, set, asked);
-    let left = came.set;
-    let report = came.report;
-    *capacity = left.capacity;
-    *head = left.head;
-    outcome_of(report, came.steps)
+    let mut dock = PlainDock {
+        set,
+        slots,
+        custody,
+    };
+    let done = byte_setup(records, &mut dock, asked);
+    *capacity = dock.set.capacity;
+    *head = dock.set.head;
+    outcome_of(done.report, done.steps)
 }
 
-// A start touches no shared word; a release's marks its index in custody.
+/// A start touches no shared word; a release's marks its index in custody.
 #[unsafe(no_mangle)]
 pub extern "C" fn husk_plain_start(
     capacity: u32,
@@ -54,30 +56,28 @@ pub extern "C" fn husk_plain_start(
     ensures custody_after { record { outcome = result; records = records.new; slots = slots.new; custody = custody.new } ≡ plain_start (record_number who) call index_or_room owner mode (plain_lent capacity head slots.old custody.old) records.old }
     ensures plain_start_fits { PlainStartFits (record_number who) call index_or_room owner mode (plain_lent capacity head slots.old custody.old) records.old }
 {
-    let set = UniqueIndexSet {
-        capacity: capacity,
-        head: head,
-    };
-    let start = Operation::Start(Request {
-        call: call,
-        index_or_room: index_or_room,
-        owner: OwnerId(owner),
-        mode: mode,
-    });
-    let came = plain_byte_turn(
-        records,
+    let set = UniqueIndexSet { capacity, head };
+    let mut dock = PlainDock {
+        set,
         slots,
         custody,
-        set,
+    };
+    let request = Request {
+        call,
+        index_or_room,
+        owner: OwnerId(owner),
+        mode,
+    };
+    let done = byte_turn(
+        records,
+        &mut dock,
         RecordNumber(who),
-        start,
-        empty_list(),
+        Operation::Start(request),
     );
-    let report = came.report;
-    outcome_of(report, came.steps)
+    outcome_of(done.report, done.steps)
 }
 
-// One shared access.
+/// One shared access.
 #[unsafe(no_mangle)]
 pub extern "C" fn husk_plain_step(
     capacity: u32,
@@ -91,25 +91,20 @@ pub extern "C" fn husk_plain_step(
     ensures plain_step_fits { PlainStepFits (record_number who) (plain_lent capacity head.old slots.old custody.old) records.old }
 {
     let set = UniqueIndexSet {
-        capacity: capacity,
+        capacity,
         head: *head,
     };
-    let came = plain_byte_turn(
-        records,
+    let mut dock = PlainDock {
+        set,
         slots,
         custody,
-        set,
-        RecordNumber(who),
-        Operation::Step,
-        empty_list(),
-    );
-    let left = came.set;
-    let report = came.report;
-    *head = left.head;
-    outcome_of(report, came.steps)
+    };
+    let done = byte_turn(records, &mut dock, RecordNumber(who), Operation::Step);
+    *head = dock.set.head;
+    outcome_of(done.report, done.steps)
 }
 
-// Steps until the answer or the budget's end.
+/// Steps until the answer or the budget's end.
 #[unsafe(no_mangle)]
 pub extern "C" fn husk_plain_drain(
     capacity: u32,
@@ -124,25 +119,25 @@ pub extern "C" fn husk_plain_drain(
     ensures plain_drain_fits { PlainDrainFits (record_number who) budget (plain_lent capacity head.old slots.old custody.old) records.old }
 {
     let set = UniqueIndexSet {
-        capacity: capacity,
+        capacity,
         head: *head,
     };
-    let came = plain_byte_turn(
-        records,
+    let mut dock = PlainDock {
+        set,
         slots,
         custody,
-        set,
+    };
+    let done = byte_turn(
+        records,
+        &mut dock,
         RecordNumber(who),
         Operation::Drain(budget),
-        empty_list(),
     );
-    let left = came.set;
-    let report = came.report;
-    *head = left.head;
-    outcome_of(report, came.steps)
+    *head = dock.set.head;
+    outcome_of(done.report, done.steps)
 }
 
-// A plain set takes no list.
+/// A plain set takes no list.
 #[unsafe(no_mangle)]
 pub extern "C" fn husk_plain_list(records: &mut [u8], who: u8, owners: &[u64]) -> Outcome
     ensures { record { outcome = result; records = records.new } ≡ plain_list (record_number who) owners.now records.old }

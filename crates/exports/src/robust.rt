@@ -1,4 +1,4 @@
-// The calls of a robust set.
+//! The calls of a robust set.
 ghost use Rattle.std.specs.Prelude.{◌≡◌};
 ghost use Rattle.unique_index_set_enums.specs.Kinds.{record_number};
 ghost use Rattle.exports.specs.Outcomes.{RecordsLeft, records_left};
@@ -6,14 +6,13 @@ ghost use Rattle.exports.specs.Robust.{RobustReady, RobustStarted, RobustStepped
 
 use crate::brought::brought;
 use crate::outcomes::{Outcome, outcome_of};
-use byte_docks::{list, robust_byte_turn, robust_setup};
+use byte_docks::{byte_setup, byte_turn, list};
 use calls::{Request, SetKind};
 use robust_unique_index_set::RobustUniqueIndexSet;
-use thread_records::empty_list;
-use turns::Operation;
+use turns::{Operation, RobustDock};
 use unique_index_set_enums::{Generation, OwnerId, RecordNumber};
 
-// An accepted setup leaves the capacity asked and generation 0.
+/// An accepted setup leaves the capacity asked and generation 0.
 #[unsafe(no_mangle)]
 pub extern "C" fn husk_robust_setup(
     capacity: &mut u32,
@@ -28,16 +27,14 @@ pub extern "C" fn husk_robust_setup(
         capacity: *capacity,
         generation: Generation(*generation),
     };
-    let came = robust_setup(records, cells, set, asked);
-    let left = came.set;
-    let report = came.report;
-    *capacity = left.capacity;
-    let generation_left = left.generation;
-    *generation = generation_left.0;
-    outcome_of(report, came.steps)
+    let mut dock = RobustDock { set, cells };
+    let done = byte_setup(records, &mut dock, asked);
+    *capacity = dock.set.capacity;
+    *generation = dock.set.generation.0;
+    outcome_of(done.report, done.steps)
 }
 
-// A start touches no shared word.
+/// A start touches no shared word.
 #[unsafe(no_mangle)]
 pub extern "C" fn husk_robust_start(
     capacity: u32,
@@ -54,21 +51,26 @@ pub extern "C" fn husk_robust_start(
     ensures robust_start_fits { RobustStartFits (record_number who) call index_or_room owner mode (robust_lent capacity generation cells.old) records.old }
 {
     let set = RobustUniqueIndexSet {
-        capacity: capacity,
+        capacity,
         generation: Generation(generation),
     };
-    let start = Operation::Start(Request {
-        call: call,
-        index_or_room: index_or_room,
+    let mut dock = RobustDock { set, cells };
+    let request = Request {
+        call,
+        index_or_room,
         owner: OwnerId(owner),
-        mode: mode,
-    });
-    let came = robust_byte_turn(records, cells, set, RecordNumber(who), start, empty_list());
-    let report = came.report;
-    outcome_of(report, came.steps)
+        mode,
+    };
+    let done = byte_turn(
+        records,
+        &mut dock,
+        RecordNumber(who),
+        Operation::Start(request),
+    );
+    outcome_of(done.report, done.steps)
 }
 
-// One shared access.
+/// One shared access.
 #[unsafe(no_mangle)]
 pub extern "C" fn husk_robust_step(
     capacity: u32,
@@ -81,25 +83,16 @@ pub extern "C" fn husk_robust_step(
     ensures robust_step_fits { RobustStepFits (record_number who) (robust_lent capacity generation.old cells.old) records.old }
 {
     let set = RobustUniqueIndexSet {
-        capacity: capacity,
+        capacity,
         generation: Generation(*generation),
     };
-    let came = robust_byte_turn(
-        records,
-        cells,
-        set,
-        RecordNumber(who),
-        Operation::Step,
-        empty_list(),
-    );
-    let left = came.set;
-    let report = came.report;
-    let generation_left = left.generation;
-    *generation = generation_left.0;
-    outcome_of(report, came.steps)
+    let mut dock = RobustDock { set, cells };
+    let done = byte_turn(records, &mut dock, RecordNumber(who), Operation::Step);
+    *generation = dock.set.generation.0;
+    outcome_of(done.report, done.steps)
 }
 
-// Steps until the answer or the budget's end.
+/// Steps until the answer or the budget's end.
 #[unsafe(no_mangle)]
 pub extern "C" fn husk_robust_drain(
     capacity: u32,
@@ -113,25 +106,21 @@ pub extern "C" fn husk_robust_drain(
     ensures robust_drain_fits { RobustDrainFits (record_number who) budget (robust_lent capacity generation.old cells.old) records.old }
 {
     let set = RobustUniqueIndexSet {
-        capacity: capacity,
+        capacity,
         generation: Generation(*generation),
     };
-    let came = robust_byte_turn(
+    let mut dock = RobustDock { set, cells };
+    let done = byte_turn(
         records,
-        cells,
-        set,
+        &mut dock,
         RecordNumber(who),
         Operation::Drain(budget),
-        empty_list(),
     );
-    let left = came.set;
-    let report = came.report;
-    let generation_left = left.generation;
-    *generation = generation_left.0;
-    outcome_of(report, came.steps)
+    *generation = dock.set.generation.0;
+    outcome_of(done.report, done.steps)
 }
 
-// A list is for the record's next accepted recover.
+/// A list is for the record's next accepted recover.
 #[unsafe(no_mangle)]
 pub extern "C" fn husk_robust_list(records: &mut [u8], who: u8, owners: &[u64]) -> Outcome
     ensures { record { outcome = result; records = records.new } ≡ robust_list (record_number who) owners.now records.old }

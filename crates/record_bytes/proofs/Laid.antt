@@ -11,7 +11,7 @@ use Rattle.byte_numbers.specs.Numbers.{le4, le8}
 use Rattle.unique_index_set_enums.specs.declared.OwnerId.{OwnerId}
 use Rattle.unique_index_set_enums.specs.Kinds.{owner}
 use Rattle.thread_records.specs.declared.Record.{Record}
-use Rattle.record_bytes.specs.Layout.{Fits, dead_number, narrow_fields, middle_fields, wide_fields, laid_at, record_at, all_written}
+use Rattle.record_bytes.specs.Layout.{Fits, dead_number, narrow_fields, middle_fields, wide_fields, laid_at, record_at}
 use Rattle.record_bytes.specs.Stored.{stored_all}
 use Rattle.record_bytes.proofs.Stores.{loaded, length-stored_all, all_below, all_above, all_loaded, loaded_same}
 
@@ -21,11 +21,6 @@ length_laid l at t =
     let a : List ℕ = stored_all 1 l at (narrow_fields t) in
     let b : List ℕ = stored_all 4 a (at + 4) (middle_fields t) in
     length-stored_all 8 b (at + 28) (wide_fields t) ∙ (length-stored_all 4 a (at + 4) (middle_fields t) ∙ length-stored_all 1 l at (narrow_fields t))
-
--- a turn of the loop that writes them all
-pub all_more : (l before : List ℕ) (n : ℕ) (t : Record) → l ≡ all_written n before t → laid_at l (132 * n) t ≡ all_written (n + 1) before t
-unfolding all_written
-all_more l before n t e = let f : n + 1 ≡ suc n = omega arith in rw f (ap (λ (b : List ℕ). laid_at b (132 * n) t) e)
 
 -- what stands outside a record's bytes stays
 pub laid_before : (l : List ℕ) (at : ℕ) (t : Record) (i : ℕ) → i < at → get_or (laid_at l at t) i 0 ≡ get_or l i 0

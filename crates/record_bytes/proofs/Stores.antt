@@ -1,11 +1,17 @@
 -- What stored numbers leave, at any width: each is read again, and no other byte changes. Assumes nothing.
 use Prim.Native.Nat.{ℕ, zero, suc, ◌+◌, ◌-◌, ◌*◌, ◌/◌, ◌%◌, ◌^◌, ◌≤◌, ◌<◌}
-use mathlib.Core.Path.{◌≡◌, refl, ◌∙◌, ap}
-use mathlib.Core.List.{List, [], ◌∷◌}
+use mathlib.Core.Path.{◌≡◌, refl, sym, ◌∙◌, ap}
+use mathlib.Core.List.{List, [], ◌∷◌, ◌++◌}
 use native.Mathlib.Omega.{arith}
 use native.Mathlib.Nat.{pow-suc, mul-suc, not-suc-le-zero}
-use lib.ListN.{length, get_or, set, drop, length-set, drop_of_length-le}
-use lib.Seq.{get_or-set_same, get_or-set_other, drop-cons}
+use Rattle.std.proofs.Math.Nat.{div-div-eq-div-mul, pow-succ'}
+use Rattle.std.proofs.Math.Seq.{take-suc-set}
+use Rattle.std.proofs.lemmas.Slice.{take-put_mid, drop-put_mid}
+use Rattle.std.proofs.lemmas.List.{take-append-drop, drop-set-lt, append_assoc, append-nil}
+use Rattle.std.specs.Int.{byte_at, bytes_low_first, to_le_bytes, w64}
+use borrow.Rule.Slice.PartMut.{put_mid}
+use lib.ListN.{length, get_or, set, take, drop, length-set}
+use lib.Seq.{get_or-set_same, get_or-set_other}
 use Rattle.record_bytes.specs.Stored.{stored, stored_all}
 
 pub length-stored : (l : List ℕ) (at width v : ℕ) → length (stored l at width v) ≡ length l
@@ -18,38 +24,54 @@ unfolding stored_all
 length-stored_all width l at [] = refl
 length-stored_all width l at (v ∷ vs) = length-stored_all width (stored l at width v) (at + width) vs ∙ length-stored l at width v
 
--- a turn of the loop that stores a number, and its end
-pub stored_turn : (l : List ℕ) (at i width v : ℕ) → i < width
-    → stored l (at + i) (width - i) v ≡ stored (set l (at + i) (v % 256)) (at + (i + 1)) (width - (i + 1)) (v / 256)
+-- a number in so many bytes, all of them at once
+low_bytes : (k m i v : ℕ) → take k (bytes_low_first i (k + m) v) ≡ bytes_low_first i k v
+low_bytes zero m i v = refl
+low_bytes (suc k) m i v =
+    let e : suc k + m ≡ suc (k + m) = omega arith in
+    rw e (ap (λ (r : List ℕ). byte_at i v ∷ r) (low_bytes k m (suc i) v))
+
+length-low : (k i v : ℕ) → length (bytes_low_first i k v) ≡ k
+length-low zero i v = refl
+length-low (suc k) i v = ap suc (length-low k (suc i) v)
+
+next_byte : (i v : ℕ) → byte_at i (v / 256) ≡ byte_at (suc i) v
+next_byte zero v = refl
+next_byte (suc i) v = ap (λ (n : ℕ). n % 256) (div-div-eq-div-mul v 256 (256 ^ suc i) ∙ ap (λ (n : ℕ). v / n) (sym (pow-succ' 256 (suc i))))
+
+next_bytes : (i k v : ℕ) → bytes_low_first i k (v / 256) ≡ bytes_low_first (suc i) k v
+next_bytes i zero v = refl
+next_bytes i (suc k) v = rw (next_byte i v) (ap (λ (r : List ℕ). byte_at (suc i) v ∷ r) (next_bytes (suc i) k v))
+
+stored_low : (width : ℕ) (l : List ℕ) (at v : ℕ) → at + width ≤ length l → stored l at width v ≡ take at l ++ bytes_low_first 0 width v ++ drop (at + width) l
 unfolding stored
-stored_turn l at i width v h =
-    let e : width - i ≡ suc (width - (i + 1)) = omega arith in
-    let f : at + i + 1 ≡ at + (i + 1) = omega arith in
-    ap (λ (j : ℕ). stored l (at + i) j v) e
-    ∙ ap (λ (j : ℕ). stored (set l (at + i) (v % 256)) j (width - (i + 1)) (v / 256)) f
+stored_low zero l at v h = let e : at + 0 ≡ at = omega arith in rw (e, append-nil (take at l)) (sym (take-append-drop at l))
+stored_low (suc width) l at v h =
+    let b = v % 256 in
+    let behind = bytes_low_first 0 width (v / 256) in
+    let one : at + 1 ≡ suc at = omega arith in
+    let e : suc at + width ≡ at + suc width = omega arith in
+    stored_low width (set l at b) (at + 1) (v / 256) (omega (arith, h, length-set l at b))
+    ∙ ap (λ (n : ℕ). take n (set l at b) ++ behind ++ drop (n + width) (set l at b)) one
+    ∙ ap (λ (r : List ℕ). r ++ behind ++ drop (suc at + width) (set l at b)) (take-suc-set l at b (omega (arith, h)))
+    ∙ ap (λ (r : List ℕ). take at l ++ (b ∷ []) ++ behind ++ r) (drop-set-lt (suc at + width) l at b (omega arith))
+    ∙ ap (λ (r : List ℕ). r ++ drop (suc at + width) l) (append_assoc (take at l) (b ∷ []) behind)
+    ∙ ap (λ (n : ℕ). take at l ++ (b ∷ behind) ++ drop n l) e
+    ∙ ap (λ (r : List ℕ). take at l ++ (b ∷ r) ++ drop (at + suc width) l) (next_bytes 0 width v)
 
-pub stored_end : (l : List ℕ) (at i width v : ℕ) → width ≤ i → stored l at (width - i) v ≡ l
-unfolding stored
-stored_end l at i width v h = let e : width - i ≡ 0 = omega arith in rw e
-
--- a turn of the loop that stores them all, and its end
-pub all_turn : (width : ℕ) (l : List ℕ) (at : ℕ) (vs : List ℕ) (i : ℕ) → i < length vs
-    → stored_all width l at (drop i vs) ≡ stored_all width (stored l at width (get_or vs i 0)) (at + width) (drop (i + 1) vs)
-unfolding stored_all
-all_turn width l at vs i h =
-    let e : suc i ≡ i + 1 = omega arith in
-    ap (stored_all width l at) (drop-cons vs i 0 h)
-    ∙ ap (λ (j : ℕ). stored_all width (stored l at width (get_or vs i 0)) (at + width) (drop j vs)) e
-
-pub all_end : (width : ℕ) (l : List ℕ) (at : ℕ) (vs : List ℕ) (i : ℕ) → length vs ≤ i → stored_all width l at (drop i vs) ≡ l
-unfolding stored_all
-all_end width l at vs i h = rw (drop_of_length-le vs h)
-
-pub all_room : (place width n i m : ℕ) → i < n → place + width * (n - i) ≤ m → place + width + width * (n - (i + 1)) ≤ m
-all_room place width n i m h room =
-    let e : n - i ≡ suc (n - (i + 1)) = omega arith in
-    let f : width * (n - i) ≡ width * (n - (i + 1)) + width = ap (λ (j : ℕ). width * j) e ∙ mul-suc width (n - (i + 1)) in
-    omega (arith, room, f)
+-- as a part of the slice that is copied over leaves it
+pub stored_part : (l : List ℕ) (at width v k : ℕ) (bytes mid : List ℕ) → k ≡ width → bytes ≡ to_le_bytes w64 v → mid ≡ take width bytes → at + width ≤ length l → width ≤ 8
+    → put_mid at k l mid ≡ stored l at width v
+stored_part l at width v k bytes mid e b m h few =
+    let whole : width + (8 - width) ≡ 8 = omega (arith, few) in
+    let low : mid ≡ bytes_low_first 0 width v =
+    m ∙ ap (take width) b ∙ ap (λ (n : ℕ). take width (bytes_low_first 0 n v)) (sym whole) ∙ low_bytes width (8 - width) 0 v in
+    let long : length mid ≡ width = ap length low ∙ length-low width 0 v in
+    sym (take-append-drop (at + width) (put_mid at k l mid))
+    ∙ ap (λ (r : List ℕ). r ++ drop (at + width) (put_mid at k l mid)) (take-put_mid at k l mid (at + width) (omega (arith, long)) (omega (arith, h)))
+    ∙ ap (λ (r : List ℕ). take at l ++ mid ++ r) (drop-put_mid at k l mid (at + width) (omega (arith, e)) (omega (arith, h)) (omega (arith, long, e)))
+    ∙ ap (λ (r : List ℕ). take at l ++ r ++ drop (at + width) l) low
+    ∙ sym (stored_low width l at v h)
 
 -- a byte beside what is stored stays
 stored_beside : (l : List ℕ) (at width v i : ℕ) → ((j : ℕ) → at ≤ j → j < at + width → i ≡ j → ⊥) → get_or (stored l at width v) i 0 ≡ get_or l i 0
