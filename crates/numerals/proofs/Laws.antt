@@ -1,6 +1,6 @@
 -- A decimal text is read back as its number, begins with no zero but that of 0 itself, and has 20 digits at most. Assumes nothing.
 use Prim.Native.Nat.{ℕ, zero, suc, ◌+◌, ◌*◌, ◌-◌, ◌/◌, ◌%◌, ◌≤◌, ◌<◌}
-use mathlib.Core.Path.{◌≡◌, refl, ap, ◌∙◌}
+use mathlib.Core.Path.{◌≡◌, refl, ap, ◌∙◌, subst}
 use mathlib.Core.Bool.{Bool, true, false}
 use mathlib.Core.List.{List, [], ◌∷◌}
 use native.Mathlib.Omega.{arith}
@@ -8,7 +8,8 @@ use borrow.Author.Tests.{ltb-true, ltb-false}
 use lib.Dec.{ltb}
 use lib.ListN.{length, get_or}
 use Rattle.numerals.specs.Digits.{decimal_by, decimal_of}
-use Rattle.numerals.proofs.Spelled.{by_more, by_last, by_none}
+use Rattle.std.proofs.lemmas.Fmt.{first_decimal}
+use Rattle.numerals.proofs.Spelled.{own_decimal, by_more, by_last, by_none}
 
 -- the number that digits go on to, from what was read before them
 abbrev pub value_from : ℕ → List ℕ → ℕ
@@ -34,16 +35,9 @@ read_by (suc n) v t false e h =
 pub decimal_read : (v : ℕ) → v < 18446744073709551616 → value_from 0 (decimal_of v) ≡ v
 decimal_read v h = read_by 20 v [] _ refl (omega (arith, h))
 
-lead_by : (n v : ℕ) (t : List ℕ) (b : Bool) → ltb v 10 ≡ b → 0 < v → v < tens n → 48 < get_or (decimal_by n v t) 0 0
-lead_by zero v t b e p h = absurd (omega (arith, p, h))
-lead_by (suc n) v t true e p h = let g : 48 < 48 + v = omega (arith, p) in rw (by_last n v t (ltb-true _ _ e)) g
-lead_by (suc n) v t false e p h =
-    let l : 10 ≤ v = ltb-false _ _ e in
-    rw (by_more n v t l) (lead_by n (v / 10) ((48 + v % 10) ∷ t) _ refl (omega (arith, l)) (omega (arith, h)))
-
 -- no leading zero
 pub decimal_leads : (v : ℕ) → 0 < v → v < 18446744073709551616 → 48 < get_or (decimal_of v) 0 0
-decimal_leads v p h = lead_by 20 v [] _ refl p (omega (arith, h))
+decimal_leads v p h = subst (λ (ds : List ℕ). 48 < get_or ds 0 0) (own_decimal v h) (first_decimal v p h)
 
 short_by : (n v : ℕ) (t : List ℕ) (b : Bool) → ltb v 10 ≡ b → length (decimal_by n v t) ≤ n + length t
 short_by zero v t b e = let z : length (decimal_by 0 v t) ≡ length t = ap length (by_none v t) in omega (arith, z)

@@ -1,9 +1,10 @@
--- The format, both ways: each entry that is written is read, with what stands behind it and a list's owners; and what is read as a whole entry is that
--- entry, written. Assumes nothing.
+-- The format, both ways: each entry that is written is read, with what stands behind it and a list's owners; and what is read as an entry is that entry,
+-- written. Assumes nothing.
 use Prim.Native.Nat.{ℕ, zero, suc, ◌+◌, ◌*◌, ◌-◌, ◌/◌, ◌%◌, ◌<◌, ◌≤◌}
 use mathlib.Core.Path.{◌≡◌, refl, sym, ap, ◌∙◌}
-use mathlib.Core.Bool.{Bool, true, false}
+use mathlib.Core.Bool.{true, false}
 use mathlib.Core.List as list
+use Rattle.std.specs.Prelude.{Ok}
 use mathlib.Core.List.{◌∷◌, ◌++◌}
 use native.Mathlib.Omega.{arith}
 use borrow.Author.Tests.{le-ltb, eqb-true, eq-eqb}
@@ -14,11 +15,13 @@ use Rattle.unique_index_set_enums.specs.Kinds.{owner}
 use Rattle.schedule.specs.declared.StartEntry.{StartEntry}
 use Rattle.schedule.specs.declared.ListEntry.{ListEntry}
 use Rattle.schedule.specs.declared.Entry.{Entry}
-use Rattle.schedule.specs.declared.Entry.TheVariants.{Setup, Start, Step, Death, List, Bad, Cut}
+use Rattle.schedule.specs.declared.Entry.TheVariants.{Setup, Start, Step, Death, List}
+use Rattle.schedule.specs.declared.kinds.Kind.{Kind}
+use Rattle.schedule.specs.declared.kinds.Kind.TheVariants as kind
 use Rattle.byte_numbers.specs.Numbers.{le2, le4, le8}
-use Rattle.schedule.specs.Format.{right_length, lacks_count, body_of, whole_of, headed_of, entry_of, is_whole, is_list, size_of, rest_of, owners_end, owners_of}
+use Rattle.schedule.specs.Format.{kind_of, right_length, body_of, whole_of, headed_of, entry_of, is_whole, is_list, size_of, rest_of, owners_end, owners_of}
 use Rattle.schedule.specs.Written.{written4, written8, written, InWidth, Bytes}
-use Rattle.schedule.proofs.Laws.{no, Whole, whole}
+use Rattle.schedule.proofs.Laws.{entry_is, kind_number, numbered, Whole, whole}
 
 eqb_same : (n : ℕ) → eqb n n ≡ true
 eqb_same n = eq-eqb n n refl
@@ -38,57 +41,50 @@ started : (e : StartEntry) (i o : ℕ) → i ≡ e.request.index_or_room → o �
 started e i o p q = rw p (rw q refl)
 
 -- each entry that is written is read
-pub read_written : (e : Entry) (owners t : list.List ℕ) → is_whole e ≡ true → InWidth e owners → entry_of (written e owners t) ≡ e
-unfolding entry_of headed_of whole_of body_of right_length lacks_count le4 le8
-read_written (Step who) owners t w h =
+pub read_written : (e : Entry) (owners t : list.List ℕ) → InWidth e owners → entry_of (written e owners t) ≡ Ok e
+unfolding entry_of headed_of whole_of kind_of le4 le8
+read_written (Step who) owners t h =
     let a : ltb (length (written (Step who) owners t)) 4 ≡ false = le-ltb (length (written (Step who) owners t)) 4 (omega arith) in
     let b : ltb (length (written (Step who) owners t)) 5 ≡ false = le-ltb (length (written (Step who) owners t)) 5 (omega arith) in
     simp (a, b)
-read_written (Death who) owners t w h =
+read_written (Death who) owners t h =
     let a : ltb (length (written (Death who) owners t)) 4 ≡ false = le-ltb (length (written (Death who) owners t)) 4 (omega arith) in
     let b : ltb (length (written (Death who) owners t)) 5 ≡ false = le-ltb (length (written (Death who) owners t)) 5 (omega arith) in
     simp (a, b)
-read_written (Setup e) owners t w h =
+read_written (Setup e) owners t h =
     let a : ltb (length (written (Setup e) owners t)) 4 ≡ false = le-ltb (length (written (Setup e) owners t)) 4 (omega arith) in
     let b : ltb (length (written (Setup e) owners t)) 10 ≡ false = le-ltb (length (written (Setup e) owners t)) 10 (omega arith) in
     simp (a, b)
-    (ap (λ (k : ℕ). Setup (record { set = e.set; records = e.records; capacity = k })) (four e.capacity h))
-read_written (Start e) owners t w h =
+    (ap (λ (k : ℕ). Ok (Setup (record { set = e.set; records = e.records; capacity = k }))) (four e.capacity h))
+read_written (Start e) owners t h =
     let a : ltb (length (written (Start e) owners t)) 4 ≡ false = le-ltb (length (written (Start e) owners t)) 4 (omega arith) in
     let b : ltb (length (written (Start e) owners t)) 19 ≡ false = le-ltb (length (written (Start e) owners t)) 19 (omega arith) in
     simp (a, b)
-    (started e _ _ (four e.request.index_or_room h.0)
-    (halves e.request.owner.0 _ _ (four (e.request.owner.0 % 4294967296) (omega arith)) (four (e.request.owner.0 / 4294967296) (omega (arith, h.1)))))
-read_written (List e) owners t w h =
+    (ap Ok (started e _ _ (four e.request.index_or_room h.0)
+    (halves e.request.owner.0 _ _ (four (e.request.owner.0 % 4294967296) (omega arith)) (four (e.request.owner.0 / 4294967296) (omega (arith, h.1))))))
+read_written (List e) owners t h =
     let l : length (owners ++ t) ≡ length owners + length t = length-append owners t in
     let a : ltb (length (written (List e) owners t)) 4 ≡ false = le-ltb (length (written (List e) owners t)) 4 (omega arith) in
     let d : ltb (length (written (List e) owners t)) 6 ≡ false = le-ltb (length (written (List e) owners t)) 6 (omega arith) in
     let b : ltb (length (written (List e) owners t)) (2 + (4 + 8 * e.count)) ≡ false = le-ltb (length (written (List e) owners t)) (2 + (4 + 8 * e.count)) (omega (arith, l, h.1)) in
     simp (a, d, two (4 + 8 * e.count), eqb_same (4 + 8 * e.count), b)
-read_written Bad owners t w h = no w
-read_written Cut owners t w h = no w
-
-whole_written : (e : Entry) (owners t : list.List ℕ) → is_whole e ≡ true → InWidth e owners → is_whole (entry_of (written e owners t)) ≡ true
-whole_written e owners t w h = ap is_whole (read_written e owners t w h) ∙ w
 
 -- with what stands behind it
-pub rest_written : (e : Entry) (owners t : list.List ℕ) → is_whole e ≡ true → InWidth e owners → rest_of (written e owners t) ≡ t
+pub rest_written : (e : Entry) (owners t : list.List ℕ) → InWidth e owners → rest_of (written e owners t) ≡ t
 unfolding rest_of size_of
-rest_written (Step who) owners t w h = simp (whole_written (Step who) owners t w h)
-rest_written (Death who) owners t w h = simp (whole_written (Death who) owners t w h)
-rest_written (Setup e) owners t w h = simp (whole_written (Setup e) owners t w h)
-rest_written (Start e) owners t w h = simp (whole_written (Start e) owners t w h)
-rest_written (List e) owners t w h =
+rest_written (Step who) owners t h = simp (read_written (Step who) owners t h)
+rest_written (Death who) owners t h = simp (read_written (Death who) owners t h)
+rest_written (Setup e) owners t h = simp (read_written (Setup e) owners t h)
+rest_written (Start e) owners t h = simp (read_written (Start e) owners t h)
+rest_written (List e) owners t h =
     let z : 2 + (4 + 8 * e.count) ≡ suc (suc (suc (suc (suc (suc (8 * e.count)))))) = omega arith in
-    simp (whole_written (List e) owners t w h, two (4 + 8 * e.count), z) (ap (λ (k : ℕ). drop k (owners ++ t)) (sym h.1) ∙ drop-append_seam owners t)
-rest_written Bad owners t w h = no w
-rest_written Cut owners t w h = no w
+    simp (read_written (List e) owners t h, two (4 + 8 * e.count), z) (ap (λ (k : ℕ). drop k (owners ++ t)) (sym h.1) ∙ drop-append_seam owners t)
 
 -- and a list's owners
 pub owners_written : (e : ListEntry) (owners t : list.List ℕ) → InWidth (List e) owners → owners_of (written (List e) owners t) ≡ owners
 unfolding owners_of owners_end
 owners_written e owners t h =
-    let l : is_list (entry_of (written (List e) owners t)) ≡ true = ap is_list (read_written (List e) owners t refl h) in
+    let l : is_list (entry_of (written (List e) owners t)) ≡ true = ap is_list (read_written (List e) owners t h) in
     let z : 6 + 8 * e.count - 6 ≡ length owners = omega (arith, h.1) in
     simp (l, z) (take-append_seam owners t)
 
@@ -118,14 +114,14 @@ module _ (a b c d : ℕ) (ha : a < 256) (hb : b < 256) (hc : c < 256) (hd : d < 
       let p3 : d % 256 ≡ d = omega (arith, hd) in
       simp (q, r, u, p0, p1, p2, p3)
 
--- what is read as a whole entry is that entry, written, with its owners and what follows
-module _ (s : list.List ℕ) (bytes : Bytes s) (w : is_whole (entry_of s) ≡ true) where
+-- what is read as an entry is that entry, written, with its owners and what follows
+module _ (s : list.List ℕ) (bytes : Bytes s) (e : Entry) (is : entry_of s ≡ Ok e) where
   abbrev W : Whole s
-  W = whole s w
+  W = whole s (ap is_whole is)
 
   rest_at : (n : ℕ) → le2 s 0 ≡ n → rest_of s ≡ drop (2 + n) s
   unfolding rest_of size_of
-  rest_at n e = simp (w, e)
+  rest_at n l = simp (is, l)
 
   -- a number that fits a byte is in the lower of two
   low : (i n : ℕ) → n < 256 → le2 s i ≡ n → (get_or s i 0 ≡ n) × (get_or s (i + 1) 0 ≡ 0)
@@ -181,25 +177,12 @@ module _ (s : list.List ℕ) (bytes : Bytes s) (w : is_whole (entry_of s) ≡ tr
       simp (rest_at _ l, i, z, y, p, q, take-append-drop (8 * get_or s 5 0) (drop 6 s)) (sym (front s 6 0 f ∙ simp (b.0, b.1)))
 
   -- by its kind
-  by_kind : (a b c d e : Bool) → eqb (le2 s 2) 1 ≡ a → eqb (le2 s 2) 2 ≡ b → eqb (le2 s 2) 3 ≡ c → eqb (le2 s 2) 4 ≡ d → eqb (le2 s 2) 5 ≡ e → written (entry_of s) (owners_of s) (rest_of s) ≡ s
-  unfolding right_length body_of
-  by_kind true b c d e pa pb pc pd pe =
-      let r : eqb (le2 s 0) 8 ≡ true = rw pa at W.right in
-      rw W.is (simp pa (setup_back (eqb-true _ _ pa) (eqb-true _ _ r)))
-  by_kind false true c d e pa pb pc pd pe =
-      let r : eqb (le2 s 0) 17 ≡ true = rw (pa, pb) at W.right in
-      rw W.is (simp (pa, pb) (start_back (eqb-true _ _ pb) (eqb-true _ _ r)))
-  by_kind false false true d e pa pb pc pd pe =
-      let r : eqb (le2 s 0) 3 ≡ true = rw (pa, pb, pc) at W.right in
-      rw W.is (simp (pa, pb, pc) (five_back 3 (omega arith) (eqb-true _ _ pc) (eqb-true _ _ r)))
-  by_kind false false false true e pa pb pc pd pe =
-      let r : eqb (le2 s 0) 3 ≡ true = rw (pa, pb, pc, pd) at W.right in
-      rw W.is (simp (pa, pb, pc, pd) (five_back 4 (omega arith) (eqb-true _ _ pd) (eqb-true _ _ r)))
-  by_kind false false false false true pa pb pc pd pe =
-      let r : eqb (le2 s 0) (4 + 8 * get_or s 5 0) ≡ true = rw (pa, pb, pc, pd, pe) at W.right in
-      let i : is_list (entry_of s) ≡ true = rw W.is (simp (pa, pb, pc, pd)) in
-      rw W.is (simp (pa, pb, pc, pd) (list_back (eqb-true _ _ pe) (eqb-true _ _ r) i))
-  by_kind false false false false false pa pb pc pd pe = let r : false ≡ true = rw (pa, pb, pc, pd, pe) at W.right in no r
+  by_kind : (k : Kind) → le2 s 2 ≡ kind_number k → right_length k (le2 s 0) (get_or s 5 0) ≡ true → entry_of s ≡ Ok (body_of s k) → written (body_of s k) (owners_of s) (rest_of s) ≡ s
+  by_kind kind.Setup n r i = setup_back n (eqb-true _ _ r)
+  by_kind kind.Start n r i = start_back n (eqb-true _ _ r)
+  by_kind kind.Step n r i = five_back 3 (omega arith) n (eqb-true _ _ r)
+  by_kind kind.Death n r i = five_back 4 (omega arith) n (eqb-true _ _ r)
+  by_kind kind.List n r i = list_back n (eqb-true _ _ r) (ap is_list i)
 
-  pub written_read : written (entry_of s) (owners_of s) (rest_of s) ≡ s
-  written_read = by_kind _ _ _ _ _ refl refl refl refl refl
+  pub written_read : written e (owners_of s) (rest_of s) ≡ s
+  written_read = ap (λ (x : Entry). written x (owners_of s) (rest_of s)) (entry_is s e (body_of s W.kind) is W.is) ∙ by_kind W.kind (numbered (le2 s 2) W.kind W.known) W.right W.is
