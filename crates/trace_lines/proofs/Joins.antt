@@ -8,28 +8,26 @@ use mathlib.Core.List.{[], ◌∷◌, ◌++◌, append_assoc, append-nil}
 use native.Mathlib.Omega.{arith}
 use lib.ListN.{length, drop}
 use lib.Seq.{get_or-drop}
-use Rattle.thread_records.specs.declared.OwnerList.{OwnerList}
-use Rattle.dock.specs.declared.Work.TheVariants as work
-use Rattle.dock.specs.Works.{Worked}
-use Rattle.any_dock.specs.Any.{AnyShared, any_work_of}
+use Rattle.std.specs.Prelude.{Result, Ok, Err}
+use Rattle.turns.specs.declared.Operation.TheVariants as operation
 use Rattle.schedule.specs.declared.SetupEntry.{SetupEntry}
 use Rattle.schedule.specs.declared.Entry.{Entry}
-use Rattle.schedule.specs.declared.Entry.TheVariants.{Setup, Start, Step, Death, List, Bad, Cut}
+use Rattle.schedule.specs.declared.Entry.TheVariants.{Setup, Start, Step, Death, List}
+use Rattle.schedule.specs.declared.NoEntry.{NoEntry}
+use Rattle.schedule.specs.declared.NoEntry.TheVariants.{Cut, Bad}
 use Rattle.schedule.specs.Format.{entry_of, rest_of, size_of, is_whole}
 use Rattle.schedule.specs.Written.{Bytes}
 use Rattle.schedule.proofs.Laws.{no}
 use Rattle.schedule.proofs.Stays.{whole_stays, rest_grows, owners_stay, is_bad, bad_stays}
 use Rattle.trace_text.specs.declared.Line.TheVariants as line
 use Rattle.trace_text.specs.Lines.{Text, line_text}
-use Rattle.trace_turns.specs.Scenes.{Scene, is_turn, turn_of, brought_by, worked_of, left_by, fetched_at, stored_at, scene_after, told_in}
-use Rattle.trace_turns.specs.Told.{told_text}
+use Rattle.trace_turns.specs.Scenes.{Scene, is_turn, turn_of, turn_at, scene_by, told_by, scene_after, told_in}
 use Rattle.trace_turns.specs.Went.{Went, stopped, behind, lacks_room, goes_on, went, went_of}
+use Rattle.trace_turns.proofs.Shorter.{turn_whole}
 use Rattle.trace_turns.proofs.Rests.{went_ends, ends_there}
 use Rattle.trace_lines.specs.declared.Stage.{Stage}
 use Rattle.trace_lines.specs.declared.Stage.TheVariants as stage
 use Rattle.trace_lines.specs.declared.Wants.TheVariants as wants
-use Rattle.trace_lines.specs.declared.openings.Opening.{Opening}
-use Rattle.trace_lines.specs.declared.openings.Opening.TheVariants as opening
 use Rattle.trace_lines.specs.declared.closings.Closing.{Closing}
 use Rattle.trace_lines.specs.declared.closings.Closing.TheVariants as closing
 use Rattle.trace_lines.specs.Setups.{opened_of}
@@ -56,27 +54,6 @@ bytes_drop : (n : ℕ) (b : list.List ℕ) → Bytes b → Bytes (drop n b)
 bytes_drop n b h i = subst (λ (k : ℕ). k < 256) (sym (get_or-drop n b i 0)) (h (n + i))
 
 -- ---- a turn is what it is where more bytes come
-turn_whole : (e : Entry) → is_turn e ≡ true → is_whole e ≡ true
-turn_whole (Setup e) t = no t
-turn_whole (Start e) t = refl
-turn_whole (Step who) t = refl
-turn_whole (Death who) t = refl
-turn_whole (List e) t = refl
-turn_whole Bad t = no t
-turn_whole Cut t = no t
-
--- by the entry and what it brings
-abbrev worked_by : Scene → Entry → OwnerList → Worked AnyShared
-worked_by s e o = any_work_of s.lent (work.Turn (turn_of e)) o s.shared (fetched_at s.lent (turn_of e).who.0 s.held)
-
-abbrev scene_by : Scene → Entry → OwnerList → Scene
-scene_by s e o =
-    let left = left_by s.counts (worked_by s e o) in
-    record { shared = left.shared; counts = left.counts; lent = s.lent; held = stored_at s.lent (turn_of e).who.0 left.thread s.held }
-
-abbrev told_by : Scene → Entry → OwnerList → Text
-told_by s e o = told_text s.counts.entries (turn_of e) (worked_by s e o).report
-
 module _ (b m : list.List ℕ) (bytes : Bytes b) (t : is_turn (entry_of b) ≡ true) where
   w : is_whole (entry_of b) ≡ true
   w = turn_whole (entry_of b) t
@@ -84,28 +61,27 @@ module _ (b m : list.List ℕ) (bytes : Bytes b) (t : is_turn (entry_of b) ≡ t
   entry_same : entry_of (b ++ m) ≡ entry_of b
   entry_same = whole_stays b bytes w m
 
-  brought_same : brought_by (entry_of (b ++ m)) (b ++ m) ≡ brought_by (entry_of b) b
-  brought_same = ap (λ (x : Entry). brought_by x (b ++ m)) entry_same ∙ by-entry (entry_of b) refl
+  same_turn : turn_at (b ++ m) ≡ turn_at b
+  same_turn = ap (λ (x : Result Entry NoEntry). turn_of x (b ++ m)) entry_same ∙ by-entry (entry_of b) refl
     where
-      by-entry : (x : Entry) → entry_of b ≡ x → brought_by x (b ++ m) ≡ brought_by x b
-      by-entry (Setup e) is = refl
-      by-entry (Start e) is = refl
-      by-entry (Step who) is = refl
-      by-entry (Death who) is = refl
-      by-entry (List e) is = ap (λ (o : _). record { count = e.count; owners = o }) (owners_stay b bytes w e is m)
-      by-entry Bad is = refl
-      by-entry Cut is = refl
+      by-entry : (x : Result Entry NoEntry) → entry_of b ≡ x → turn_of x (b ++ m) ≡ turn_of x b
+      by-entry (Ok (Setup e)) is = refl
+      by-entry (Ok (Start e)) is = refl
+      by-entry (Ok (Step who)) is = refl
+      by-entry (Ok (Death who)) is = refl
+      by-entry (Ok (List e)) is = ap (λ (o : _). record { who = e.who; operation = operation.List (record { count = e.count; owners = o }) }) (owners_stay b bytes w e is m)
+      by-entry (Err why) is = refl
 
   turn_same : is_turn (entry_of (b ++ m)) ≡ true
   turn_same = ap is_turn entry_same ∙ t
 
   scene_same : (s : Scene) → scene_after s (b ++ m) ≡ scene_after s b
-  unfolding scene_after worked_of
-  scene_same s = ap (λ (e : Entry). scene_by s e (brought_by (entry_of (b ++ m)) (b ++ m))) entry_same ∙ ap (scene_by s (entry_of b)) brought_same
+  unfolding scene_after
+  scene_same s = ap (scene_by s) same_turn
 
   told_same : (s : Scene) → told_in s (b ++ m) ≡ told_in s b
-  unfolding told_in worked_of
-  told_same s = ap (λ (e : Entry). told_by s e (brought_by (entry_of (b ++ m)) (b ++ m))) entry_same ∙ ap (told_by s (entry_of b)) brought_same
+  unfolding told_in
+  told_same s = ap (told_by s) same_turn
 
   -- so a turn, and then what follows it, is what follows in the longer
   longer_turn : (s : Scene) (text : Text) → Runs (scene_after s b) (rest_of b ++ m) text → Runs s (b ++ m) (told_in s b ++ text)
@@ -217,18 +193,18 @@ module _ (room : ℕ) (s : Scene) (b m : list.List ℕ) (h : Bytes b) where
   running_follows final f = by_room final (lacks_room room (length W.text)) f
 
   -- not the last: an end is a bad entry, which stays bad
-  closing_stays : (e : Entry) → entry_of W.rest ≡ e → is_end (closing_of e (length W.rest) false) ≡ true → (is_turn (entry_of (W.rest ++ m)) ≡ false) × (closing_of (entry_of (W.rest ++ m)) (length (W.rest ++ m)) true ≡ closing_of e (length W.rest) false)
-  closing_stays (Setup x) is h' =
-      let same : entry_of (W.rest ++ m) ≡ Setup x = whole_stays W.rest rest_is_bytes (ap is_whole is) m ∙ is in
-      (ap is_turn same, ap (λ (z : Entry). closing_of z (length (W.rest ++ m)) true) same)
-  closing_stays Bad is h' =
-      let same : entry_of (W.rest ++ m) ≡ Bad = bad_stays W.rest m (ap is_bad is) in
-      (ap is_turn same, ap (λ (z : Entry). closing_of z (length (W.rest ++ m)) true) same)
-  closing_stays (Start x) is h' = no h'
-  closing_stays (Step who) is h' = no h'
-  closing_stays (Death who) is h' = no h'
-  closing_stays (List x) is h' = no h'
-  closing_stays Cut is h' = no h'
+  closing_stays : (e : Result Entry NoEntry) → entry_of W.rest ≡ e → is_end (closing_of e (length W.rest) false) ≡ true → (is_turn (entry_of (W.rest ++ m)) ≡ false) × (closing_of (entry_of (W.rest ++ m)) (length (W.rest ++ m)) true ≡ closing_of e (length W.rest) false)
+  closing_stays (Ok (Setup x)) is h' =
+      let same : entry_of (W.rest ++ m) ≡ Ok (Setup x) = whole_stays W.rest rest_is_bytes (ap is_whole is) m ∙ is in
+      (ap is_turn same, ap (λ (z : Result Entry NoEntry). closing_of z (length (W.rest ++ m)) true) same)
+  closing_stays (Err Bad) is h' =
+      let same : entry_of (W.rest ++ m) ≡ Err Bad = bad_stays W.rest m (ap is_bad is) in
+      (ap is_turn same, ap (λ (z : Result Entry NoEntry). closing_of z (length (W.rest ++ m)) true) same)
+  closing_stays (Ok (Start x)) is h' = no h'
+  closing_stays (Ok (Step who)) is h' = no h'
+  closing_stays (Ok (Death who)) is h' = no h'
+  closing_stays (Ok (List x)) is h' = no h'
+  closing_stays (Err Cut) is h' = no h'
 
   pub running_more : Follows (running_of room s b false) stage.Running s b m
   running_more = running_follows false (λ (e : _). ended (closing_stays (entry_of W.rest) refl e))
@@ -237,14 +213,14 @@ module _ (room : ℕ) (s : Scene) (b m : list.List ℕ) (h : Bytes b) where
       ended (t, c) = subst (λ (z : Closing). Runs W.scene (W.rest ++ m) (closing_text W.scene.shared.set W.scene.counts z)) c (ends t)
 
 -- the last: it ends as it stands
-end_no_turn : (e : Entry) (n : ℕ) → is_end (closing_of e n true) ≡ true → is_turn e ≡ false
-end_no_turn (Setup x) n h = refl
-end_no_turn (Start x) n h = no h
-end_no_turn (Step who) n h = no h
-end_no_turn (Death who) n h = no h
-end_no_turn (List x) n h = no h
-end_no_turn Bad n h = refl
-end_no_turn Cut n h = refl
+end_no_turn : (e : Result Entry NoEntry) (n : ℕ) → is_end (closing_of e n true) ≡ true → is_turn e ≡ false
+end_no_turn (Ok (Setup x)) n h = refl
+end_no_turn (Ok (Start x)) n h = no h
+end_no_turn (Ok (Step who)) n h = no h
+end_no_turn (Ok (Death who)) n h = no h
+end_no_turn (Ok (List x)) n h = no h
+end_no_turn (Err Bad) n h = refl
+end_no_turn (Err Cut) n h = refl
 
 running_last : (room : ℕ) (s : Scene) (b : list.List ℕ) → Bytes b → Follows (running_of room s b true) stage.Running s b []
 running_last room s b h = running_follows room s b [] h true ended
@@ -257,64 +233,62 @@ running_last room s b h = running_follows room s b [] h true ended
         (sym (append-nil (went_of room s b).rest)) (ends (end_no_turn (entry_of (went_of room s b).rest) (length (went_of room s b).rest) e))
 
 -- ---- before the setup
-abbrev entry_back : Opening → Entry
-entry_back (opening.Setup e) = Setup e
-entry_back opening.Waits = Cut
-entry_back opening.Bad = Bad
+abbrev entry_back : Result SetupEntry NoEntry → Result Entry NoEntry
+entry_back (Ok e) = Ok (Setup e)
+entry_back (Err why) = Err why
 
-abbrev is_setup : Opening → Bool
-is_setup (opening.Setup e) = true
-is_setup opening.Waits = false
-is_setup opening.Bad = false
+abbrev is_setup : Result SetupEntry NoEntry → Bool
+is_setup (Ok e) = true
+is_setup (Err why) = false
 
-abbrev is_lacking : Opening → Bool
-is_lacking (opening.Setup e) = false
-is_lacking opening.Waits = false
-is_lacking opening.Bad = true
+abbrev is_lacking : Result SetupEntry NoEntry → Bool
+is_lacking (Ok e) = false
+is_lacking (Err Cut) = false
+is_lacking (Err Bad) = true
 
-setup_is : (x : Entry) (final : Bool) (e : SetupEntry) → opening_of x final ≡ opening.Setup e → x ≡ Setup e
-setup_is (Setup y) final e o = ap entry_back o
-setup_is (Start y) final e o = no (ap is_setup o)
-setup_is (Step who) final e o = no (ap is_setup o)
-setup_is (Death who) final e o = no (ap is_setup o)
-setup_is (List y) final e o = no (ap is_setup o)
-setup_is Bad final e o = no (ap is_setup o)
-setup_is Cut true e o = no (ap is_setup o)
-setup_is Cut false e o = no (ap is_setup o)
+setup_is : (x : Result Entry NoEntry) (final : Bool) (e : SetupEntry) → opening_of x final ≡ Ok e → x ≡ Ok (Setup e)
+setup_is (Ok (Setup y)) final e o = ap entry_back o
+setup_is (Ok (Start y)) final e o = no (ap is_setup o)
+setup_is (Ok (Step who)) final e o = no (ap is_setup o)
+setup_is (Ok (Death who)) final e o = no (ap is_setup o)
+setup_is (Ok (List y)) final e o = no (ap is_setup o)
+setup_is (Err Bad) final e o = no (ap is_setup o)
+setup_is (Err Cut) true e o = no (ap is_setup o)
+setup_is (Err Cut) false e o = no (ap is_setup o)
 
 module _ (room : ℕ) (s : Scene) (b m : list.List ℕ) (h : Bytes b) (final : Bool) where
-  begins_longer : (e : SetupEntry) → entry_of b ≡ Setup e → (text : Text) → Traces (opened_of e s).stage (opened_of e s).scene (drop (size_of b) b ++ m) text → Traces stage.Fresh s (b ++ m) ((opened_of e s).text ++ text)
+  begins_longer : (e : SetupEntry) → entry_of b ≡ Ok (Setup e) → (text : Text) → Traces (opened_of e s).stage (opened_of e s).scene (drop (size_of b) b ++ m) text → Traces stage.Fresh s (b ++ m) ((opened_of e s).text ++ text)
   unfolding rest_of
   begins_longer e is text t =
       let whole : is_whole (entry_of b) ≡ true = ap is_whole is in
-      begins {s = s} {bytes = b ++ m} {text = text} {e = e} (ap (λ (z : Entry). opening_of z true) (whole_stays b h whole m ∙ is)) (rw (rest_grows b h whole m) t)
+      begins {s = s} {bytes = b ++ m} {text = text} {e = e} (ap (λ (z : Result Entry NoEntry). opening_of z true) (whole_stays b h whole m ∙ is)) (rw (rest_grows b h whole m) t)
 
-  by_opening : (o : Opening) → opening_of (entry_of b) final ≡ o → (is_lacking o ≡ true → opening_of (entry_of (b ++ m)) true ≡ opening.Bad) → Follows (opened_piece o s (size_of b)) stage.Fresh s b m
-  by_opening (opening.Setup e) is f text t = begins_longer e (setup_is (entry_of b) final e is) text t
-  by_opening opening.Waits is f text t = t
-  by_opening opening.Bad is f text t = subst (Traces stage.Fresh s (b ++ m)) (sym (ap (λ (z : Text). line_text line.Bad ++ z) (over_none t refl) ∙ append-nil (line_text line.Bad))) (lacks {s = s} {bytes = b ++ m} (f refl))
+  by_opening : (o : Result SetupEntry NoEntry) → opening_of (entry_of b) final ≡ o → (is_lacking o ≡ true → opening_of (entry_of (b ++ m)) true ≡ Err Bad) → Follows (opened_piece o s (size_of b)) stage.Fresh s b m
+  by_opening (Ok e) is f text t = begins_longer e (setup_is (entry_of b) final e is) text t
+  by_opening (Err Cut) is f text t = t
+  by_opening (Err Bad) is f text t = subst (Traces stage.Fresh s (b ++ m)) (sym (ap (λ (z : Text). line_text line.Bad ++ z) (over_none t refl) ∙ append-nil (line_text line.Bad))) (lacks {s = s} {bytes = b ++ m} (f refl))
 
-  by_place : (l : Bool) → (is_lacking (opening_of (entry_of b) final) ≡ true → opening_of (entry_of (b ++ m)) true ≡ opening.Bad)
+  by_place : (l : Bool) → (is_lacking (opening_of (entry_of b) final) ≡ true → opening_of (entry_of (b ++ m)) true ≡ Err Bad)
       → Follows (cond l (piece stage.Fresh s 0 [] wants.Again) (opened_piece (opening_of (entry_of b) final) s (size_of b))) stage.Fresh s b m
   by_place true f text t = t
   by_place false f text t = by_opening (opening_of (entry_of b) final) refl f text t
 
-  fresh_follows : (is_lacking (opening_of (entry_of b) final) ≡ true → opening_of (entry_of (b ++ m)) true ≡ opening.Bad) → Follows (fresh_of room s b final) stage.Fresh s b m
+  fresh_follows : (is_lacking (opening_of (entry_of b) final) ≡ true → opening_of (entry_of (b ++ m)) true ≡ Err Bad) → Follows (fresh_of room s b final) stage.Fresh s b m
   fresh_follows f = by_place (lacks_room room 0) f
 
-lacking_stays : (b m : list.List ℕ) → Bytes b → (e : Entry) → entry_of b ≡ e → is_lacking (opening_of e false) ≡ true → opening_of (entry_of (b ++ m)) true ≡ opening.Bad
-lacking_stays b m h (Setup x) is l = no l
-lacking_stays b m h (Start x) is l = ap (λ (z : Entry). opening_of z true) (whole_stays b h (ap is_whole is) m ∙ is)
-lacking_stays b m h (Step who) is l = ap (λ (z : Entry). opening_of z true) (whole_stays b h (ap is_whole is) m ∙ is)
-lacking_stays b m h (Death who) is l = ap (λ (z : Entry). opening_of z true) (whole_stays b h (ap is_whole is) m ∙ is)
-lacking_stays b m h (List x) is l = ap (λ (z : Entry). opening_of z true) (whole_stays b h (ap is_whole is) m ∙ is)
-lacking_stays b m h Bad is l = ap (λ (z : Entry). opening_of z true) (bad_stays b m (ap is_bad is))
-lacking_stays b m h Cut is l = no l
+lacking_stays : (b m : list.List ℕ) → Bytes b → (e : Result Entry NoEntry) → entry_of b ≡ e → is_lacking (opening_of e false) ≡ true → opening_of (entry_of (b ++ m)) true ≡ Err Bad
+lacking_stays b m h (Ok (Setup x)) is l = no l
+lacking_stays b m h (Ok (Start x)) is l = ap (λ (z : Result Entry NoEntry). opening_of z true) (whole_stays b h (ap is_whole is) m ∙ is)
+lacking_stays b m h (Ok (Step who)) is l = ap (λ (z : Result Entry NoEntry). opening_of z true) (whole_stays b h (ap is_whole is) m ∙ is)
+lacking_stays b m h (Ok (Death who)) is l = ap (λ (z : Result Entry NoEntry). opening_of z true) (whole_stays b h (ap is_whole is) m ∙ is)
+lacking_stays b m h (Ok (List x)) is l = ap (λ (z : Result Entry NoEntry). opening_of z true) (whole_stays b h (ap is_whole is) m ∙ is)
+lacking_stays b m h (Err Bad) is l = ap (λ (z : Result Entry NoEntry). opening_of z true) (bad_stays b m (ap is_bad is))
+lacking_stays b m h (Err Cut) is l = no l
 
-lacking_is : (o : Opening) → is_lacking o ≡ true → o ≡ opening.Bad
-lacking_is (opening.Setup e) l = no l
-lacking_is opening.Waits l = no l
-lacking_is opening.Bad l = refl
+lacking_is : (o : Result SetupEntry NoEntry) → is_lacking o ≡ true → o ≡ Err Bad
+lacking_is (Ok e) l = no l
+lacking_is (Err Cut) l = no l
+lacking_is (Err Bad) l = refl
 
 -- ---- one call, whatever the stage
 follows_more : (st : Stage) (room : ℕ) (s : Scene) (b m : list.List ℕ) → Bytes b → Follows (piece_of st room s b false) st s b m
@@ -347,13 +321,12 @@ runs_same (ends i) (turns j q) = no (sym i ∙ j)
 runs_same (ends i) (ends j) = refl
 
 -- the setup that a schedule has
-one_setup : (o : Opening) (e x : SetupEntry) → o ≡ opening.Setup e → o ≡ opening.Setup x → e ≡ x
+one_setup : (o : Result SetupEntry NoEntry) (e x : SetupEntry) → o ≡ Ok e → o ≡ Ok x → e ≡ x
 one_setup o e x p q = ap (setup_back e) (sym p ∙ q)
   where
-    setup_back : SetupEntry → Opening → SetupEntry
-    setup_back d (opening.Setup y) = y
-    setup_back d opening.Waits = d
-    setup_back d opening.Bad = d
+    setup_back : SetupEntry → Result SetupEntry NoEntry → SetupEntry
+    setup_back d (Ok y) = y
+    setup_back d (Err why) = d
 
 pub traces_same : {st st' : Stage} {s : Scene} {b : list.List ℕ} {t u : Text} → Traces st s b t → Traces st' s b u → st ≡ st' → t ≡ u
 traces_same (begins {s} {bytes} {text} {e} o r) (begins {text = text'} {e = x} p q) is =

@@ -10,8 +10,10 @@ use borrow.Author.Tests.{ltb-false}
 use lib.Dec.{ltb, eqb}
 use lib.ListN.{length, get_or, take, replicate, length-replicate}
 use Rattle.unique_index_set_enums.specs.Limits.{trace_capacity_limit}
-use Rattle.calls.specs.declared.Verdict.{Verdict}
-use Rattle.calls.specs.declared.Verdict.TheVariants.{Accepted, Refused}
+use Rattle.std.specs.Prelude.{Option, Some, None, Result, Ok, Err}
+use Rattle.calls.specs.declared.Progress.{Progress}
+use Rattle.calls.specs.declared.Progress.TheVariants.{Accepted}
+use Rattle.calls.specs.declared.Refusal.{Refusal}
 use Rattle.calls.specs.Order.{tests_at_setup, verdict_of}
 use Rattle.thread_records.specs.declared.Record.{Record}
 use Rattle.thread_records.specs.Records.{empty_list, idle_record}
@@ -22,7 +24,8 @@ use Rattle.robust_unique_index_set.specs.Steps as robust
 use Rattle.robust_unique_index_set.specs.Setups as robustsetup
 use Rattle.turns.specs.Docks.{Table, Turned, Dock, set_up}
 use Rattle.dock.specs.declared.Work.TheVariants as work
-use Rattle.dock.specs.Works.{is_accepted, Worked, table, settled_in, worked_table}
+use Rattle.dock.specs.declared.tables.Settled.TheVariants.{All}
+use Rattle.dock.specs.Works.{Worked, table, settled_by, settled_in, settled_thread, worked_table}
 use Rattle.dock.proofs.Works.{work_setup}
 use Rattle.any_dock.specs.declared.AnySet.{AnySet}
 use Rattle.any_dock.specs.declared.AnySet.TheVariants.{Plain, Robust}
@@ -32,8 +35,6 @@ use Rattle.schedule.specs.declared.SetupEntry.{SetupEntry}
 use Rattle.schedule.proofs.Laws.{no}
 use Rattle.trace_turns.specs.Scenes.{Scene}
 use Rattle.trace_turns.proofs.Docks.{Seated, dock_in}
-use Rattle.trace_lines.specs.declared.setups.SetRead.{SetRead}
-use Rattle.trace_lines.specs.declared.setups.SetRead.TheVariants as read
 use Rattle.trace_lines.specs.Setups.{set_read, kind_of, stage_after, ready_of, opened_by, over, too_large_line, opened_with, opened_of}
 use Rattle.trace_lines.proofs.Joins.{is_running}
 
@@ -64,11 +65,11 @@ opened_seated e s = by_read (set_read e.set)
     by-room : (set : AnySet) (b : Bool) → is_running (cond b (over s too_large_line) (opened_by e (kind_of set) (ready_of set e s.shared))).stage ≡ true
         → Seated (cond b (over s too_large_line) (opened_by e (kind_of set) (ready_of set e s.shared))).scene
     by-room set true h = no h
-    by-room set false h = record { lent = ready_few set e s.shared h; held = length-replicate 16 (ready_of set e s.shared).settled.thread }
+    by-room set false h = record { lent = ready_few set e s.shared h; held = length-replicate 16 (settled_thread (ready_of set e s.shared).settled) }
 
-    by_read : (r : SetRead) → is_running (opened_with r e s).stage ≡ true → Seated (opened_with r e s).scene
-    by_read read.Unknown h = no h
-    by_read (read.Known set) h = by-room set (ltb trace_capacity_limit e.capacity) h
+    by_read : (r : Option AnySet) → is_running (opened_with r e s).stage ≡ true → Seated (opened_with r e s).scene
+    by_read None h = no h
+    by_read (Some set) h = by-room set (ltb trace_capacity_limit e.capacity) h
 
 -- ---- the dock's own setup
 first_idle : (n : ℕ) (t : Record) → get_or (replicate n t) 0 t ≡ t
@@ -81,18 +82,21 @@ take_same (suc n) zero t h = absurd (not-suc-le-zero h)
 take_same (suc n) (suc m) t h = ap (λ (l : list.List Record). t ∷ l) (take_same n m t (le_of_suc-le-suc h))
 
 -- a setup that runs was accepted, so that every record is settled
-judged_accepted : {S : Type 0} (v : Verdict) (s : S) (t : Record) (e : Effect S) → is_accepted e.report.progress ≡ true → is_running (stage_after (judged v s t e).report.progress) ≡ true → is_accepted (judged v s t e).report.progress ≡ true
-judged_accepted (Refused why) s t e a h = no h
-judged_accepted Accepted s t e a h = a
+judged_all : {S : Type 0} (v : Result (Unit {0}) Refusal) (s : S) (t : Record) (e : Effect S) → e.report.progress ≡ Accepted → is_running (stage_after (judged v s t e).report.progress) ≡ true
+    → settled_by (judged v s t e).report.progress (judged v s t e).thread ≡ All (judged v s t e).thread
+judged_all (Err why) s t e a h = no h
+judged_all (Ok u) s t e a h = ap (λ (p : Progress). settled_by p e.thread) a
 
-everywhere : (set : AnySet) (e : SetupEntry) (s : AnyShared) → is_running (stage_after (ready_of set e s).report.progress) ≡ true → (ready_of set e s).settled.everywhere ≡ true
+everywhere : (set : AnySet) (e : SetupEntry) (s : AnyShared) → is_running (stage_after (ready_of set e s).report.progress) ≡ true → (ready_of set e s).settled ≡ All (settled_thread (ready_of set e s).settled)
 unfolding ready_of plainsetup.setup_of robustsetup.setup_of
 everywhere (Plain p) e s h =
     let S = plain.shared p s.slots s.custody in
-    judged_accepted (plainsetup.setup_judged e.records e.capacity S) S (idle_record empty_list) (plainsetup.set_fresh e.capacity S) refl h
+    let k = judged_all (plainsetup.setup_judged e.records e.capacity S) S (idle_record empty_list) (plainsetup.set_fresh e.capacity S) refl h in
+    k ∙ ap All (sym (ap settled_thread k))
 everywhere (Robust r) e s h =
     let S = robust.shared r s.cells in
-    judged_accepted (robustsetup.setup_judged e.records e.capacity S) S (idle_record empty_list) (robustsetup.set_fresh e.capacity S) refl h
+    let k = judged_all (robustsetup.setup_judged e.records e.capacity S) S (idle_record empty_list) (robustsetup.set_fresh e.capacity S) refl h in
+    k ∙ ap All (sym (ap settled_thread k))
 
 module _ (set : AnySet) (e : SetupEntry) (s : AnyShared) (h : is_running (stage_after (ready_of set e s).report.progress) ≡ true) where
   abbrev R : list.List Record
@@ -101,12 +105,12 @@ module _ (set : AnySet) (e : SetupEntry) (s : AnyShared) (h : is_running (stage_
   abbrev U : Worked AnyShared
   U = ready_of set e s
 
-  all_settled : take e.records (replicate 16 U.settled.thread) ≡ settled_in U.settled R
+  all_settled : take e.records (replicate 16 (settled_thread U.settled)) ≡ settled_in U.settled R
   all_settled =
-      take_same e.records 16 U.settled.thread (ready_few set e s h) ∙ ap (λ (k : ℕ). replicate k U.settled.thread) (sym (length-replicate e.records (idle_record empty_list)))
-      ∙ rw (everywhere set e s h) refl
+      take_same e.records 16 (settled_thread U.settled) (ready_few set e s h) ∙ ap (λ (k : ℕ). replicate k (settled_thread U.settled)) (sym (length-replicate e.records (idle_record empty_list)))
+      ∙ sym (ap (λ (x : _). settled_in x R) (everywhere set e s h))
 
-  for_all : U ≡ work_on (length R) (work.Setup e.capacity) empty_list set s.slots s.custody s.cells (get_or R 0 (idle_record empty_list))
+  for_all : U ≡ work_on (length R) (work.Setup e.capacity) set s.slots s.custody s.cells (get_or R 0 (idle_record empty_list))
   unfolding ready_of
   for_all = rw (length-replicate e.records (idle_record empty_list), first_idle e.records (idle_record empty_list)) refl
 
@@ -114,5 +118,5 @@ module _ (set : AnySet) (e : SetupEntry) (s : AnyShared) (h : is_running (stage_
   opened_dock =
       ap (λ (l : list.List Record). dock_of (table U.shared l)) all_settled
       ∙ ap (λ (u : Worked AnyShared). dock_of (worked_table u R).left) for_all
-      ∙ ap (λ (v : Turned (Table AnyShared)). dock_of v.left) (any_works (work.Setup e.capacity) empty_list s.slots s.custody s.cells R set)
-      ∙ ap (λ (v : Turned Dock). v.left) (any_dock_lem (work.Setup e.capacity) empty_list s.slots s.custody s.cells R set ∙ work_setup e.capacity empty_list (dock_on set s.slots s.custody s.cells R))
+      ∙ ap (λ (v : Turned (Table AnyShared)). dock_of v.left) (any_works (work.Setup e.capacity) s.slots s.custody s.cells R set)
+      ∙ ap (λ (v : Turned Dock). v.left) (any_dock_lem (work.Setup e.capacity) s.slots s.custody s.cells R set ∙ work_setup e.capacity (dock_on set s.slots s.custody s.cells R))

@@ -1,13 +1,16 @@
 -- What one call does with a piece of a schedule's bytes: the setup, or as many turns as there are whole entries and room for their lines; and what
 -- ends a trace.
-use Rattle.std.specs.Prelude.{ℕ, ◌-◌, ◌≡◌, Bool, cond, [], ◌++◌, eqb, length, replicate}
+use Rattle.std.specs.Prelude.{ℕ, ◌-◌, ◌≡◌, Bool, cond, [], ◌++◌, eqb, length, replicate, Result, Ok, Err}
 use mathlib.Core.List as list
 use Rattle.unique_index_set_enums.specs.Kinds.{record_number}
 use Rattle.thread_records.specs.Records.{empty_list, idle_record}
 use Rattle.any_dock.specs.declared.AnySet.{AnySet}
 use Rattle.any_dock.specs.declared.AnySet.TheVariants.{Plain, Robust}
 use Rattle.schedule.specs.declared.Entry.{Entry}
-use Rattle.schedule.specs.declared.Entry.TheVariants.{Setup, Start, Step, Death, List, Bad, Cut}
+use Rattle.schedule.specs.declared.Entry.TheVariants.{Setup, Start, Step, Death, List}
+use Rattle.schedule.specs.declared.NoEntry.{NoEntry}
+use Rattle.schedule.specs.declared.NoEntry.TheVariants.{Cut, Bad}
+use Rattle.schedule.specs.declared.SetupEntry.{SetupEntry}
 use Rattle.schedule.specs.Format.{entry_of, size_of}
 use Rattle.trace_text.specs.declared.events.Event.TheVariants as event
 use Rattle.trace_text.specs.declared.Line.TheVariants as line
@@ -15,15 +18,13 @@ use Rattle.trace_text.specs.Laid.{LaidAs}
 use Rattle.trace_text.specs.Lines.{Text, line_text}
 use Rattle.trace_turns.specs.declared.moves.Counts.{Counts}
 use Rattle.trace_turns.specs.Told.{entry_line}
-use Rattle.trace_turns.specs.Scenes.{Scene, scene_of}
+use Rattle.trace_turns.specs.Scenes.{Scene}
 use Rattle.trace_turns.specs.Went.{Went, lacks_room, went_of}
 use Rattle.trace_lines.specs.declared.Stage.{Stage}
 use Rattle.trace_lines.specs.declared.Stage.TheVariants as stage
 use Rattle.trace_lines.specs.declared.Wants.{Wants}
 use Rattle.trace_lines.specs.declared.Wants.TheVariants as wants
 use Rattle.trace_lines.specs.declared.Piece.{Piece}
-use Rattle.trace_lines.specs.declared.openings.Opening.{Opening}
-use Rattle.trace_lines.specs.declared.openings.Opening.TheVariants as opening
 use Rattle.trace_lines.specs.declared.closings.Closing.{Closing}
 use Rattle.trace_lines.specs.declared.closings.Closing.TheVariants as closing
 use Rattle.trace_lines.specs.declared.Tracer.{Tracer}
@@ -56,14 +57,14 @@ bad_line c = entry_line c.entries (record_number 0) event.Bad
 abbrev pub cut_at : ℕ → Bool → Closing
 cut_at left last = cond last (cond (eqb left 0) closing.Ends closing.Bad) closing.Waits
 
-abbrev pub closing_of : Entry → ℕ → Bool → Closing
-closing_of (Setup e) left last = closing.Bad
-closing_of (Start e) left last = closing.Turns
-closing_of (Step who) left last = closing.Turns
-closing_of (Death who) left last = closing.Turns
-closing_of (List e) left last = closing.Turns
-closing_of Bad left last = closing.Bad
-closing_of Cut left last = cut_at left last
+abbrev pub closing_of : Result Entry NoEntry → ℕ → Bool → Closing
+closing_of (Ok (Setup e)) left last = closing.Bad
+closing_of (Ok (Start e)) left last = closing.Turns
+closing_of (Ok (Step who)) left last = closing.Turns
+closing_of (Ok (Death who)) left last = closing.Turns
+closing_of (Ok (List e)) left last = closing.Turns
+closing_of (Err Bad) left last = closing.Bad
+closing_of (Err Cut) left last = cut_at left last
 
 abbrev pub closing_text : AnySet → Counts → Closing → Text
 closing_text set c closing.Turns = []
@@ -95,15 +96,15 @@ turned_by room bytes last w =
 abbrev pub running_of : ℕ → Scene → list.List ℕ → Bool → Pieced
 running_of room s bytes last = turned_by room (length bytes) last (went_of room s bytes)
 
--- ---- its beginning: the first entry is the setup
-abbrev pub opening_of : Entry → Bool → Opening
-opening_of (Setup e) last = opening.Setup e
-opening_of (Start e) last = opening.Bad
-opening_of (Step who) last = opening.Bad
-opening_of (Death who) last = opening.Bad
-opening_of (List e) last = opening.Bad
-opening_of Bad last = opening.Bad
-opening_of Cut last = cond last opening.Bad opening.Waits
+-- ---- its beginning: the first entry is the setup; where the bytes end in the middle of it, more may come
+abbrev pub opening_of : Result Entry NoEntry → Bool → Result SetupEntry NoEntry
+opening_of (Ok (Setup e)) last = Ok e
+opening_of (Ok (Start e)) last = Err Bad
+opening_of (Ok (Step who)) last = Err Bad
+opening_of (Ok (Death who)) last = Err Bad
+opening_of (Ok (List e)) last = Err Bad
+opening_of (Err Bad) last = Err Bad
+opening_of (Err Cut) last = cond last (Err Bad) (Err Cut)
 
 abbrev pub wants_in : Stage → Wants
 wants_in stage.Fresh = wants.Bytes
@@ -113,10 +114,10 @@ wants_in stage.Over = wants.Nothing
 abbrev pub opened_as : ℕ → Opened → Pieced
 opened_as used o = piece o.stage o.scene used o.text (wants_in o.stage)
 
-abbrev pub opened_piece : Opening → Scene → ℕ → Pieced
-opened_piece (opening.Setup e) s used = opened_as used (opened_of e s)
-opened_piece opening.Waits s used = piece stage.Fresh s 0 [] wants.Bytes
-opened_piece opening.Bad s used = piece stage.Over s 0 (line_text line.Bad) wants.Nothing
+abbrev pub opened_piece : Result SetupEntry NoEntry → Scene → ℕ → Pieced
+opened_piece (Ok e) s used = opened_as used (opened_of e s)
+opened_piece (Err Cut) s used = piece stage.Fresh s 0 [] wants.Bytes
+opened_piece (Err Bad) s used = piece stage.Over s 0 (line_text line.Bad) wants.Nothing
 
 abbrev pub fresh_of : ℕ → Scene → list.List ℕ → Bool → Pieced
 fresh_of room s bytes last = cond (lacks_room room 0) (piece stage.Fresh s 0 [] wants.Again) (opened_piece (opening_of (entry_of bytes) last) s (size_of bytes))
@@ -127,10 +128,10 @@ piece_of stage.Fresh room s bytes last = fresh_of room s bytes last
 piece_of stage.Running room s bytes last = running_of room s bytes last
 piece_of stage.Over room s bytes last = piece stage.Over s 0 [] wants.Nothing
 
--- what a call comes back with, and the lent buffers as it leaves them
-pub record PieceAs (p : Pieced) (out : list.List ℕ) (r : Piece) (out' slots custody cells : list.List ℕ) : Type 0 where
-  pub stage : r.tracer.stage ≡ p.stage
-  pub scene : scene_of r.tracer.running slots custody cells ≡ p.scene
+-- what a call comes back with, and the stage, the scene and the lines as it leaves them
+pub record PieceAs (p : Pieced) (out : list.List ℕ) (r : Piece) (st : Stage) (s : Scene) (out' : list.List ℕ) : Type 0 where
+  pub stage : st ≡ p.stage
+  pub scene : s ≡ p.scene
   pub used : r.used ≡ p.used
   pub wants : r.wants ≡ p.wants
   pub laid : LaidAs out 0 p.text out' r.written

@@ -1,14 +1,14 @@
 -- The trace of a schedule, whatever pieces it comes in: the setup's line, each turn's lines, and what ends it.
-use Rattle.std.specs.Prelude.{ℕ, ◌≡◌, true, false, [], ◌++◌, length}
+use Rattle.std.specs.Prelude.{ℕ, ◌≡◌, true, false, [], ◌++◌, length, Ok, Err}
 use mathlib.Core.List as list
 use Rattle.schedule.specs.declared.SetupEntry.{SetupEntry}
+use Rattle.schedule.specs.declared.NoEntry.TheVariants.{Bad}
 use Rattle.schedule.specs.Format.{entry_of, rest_of}
 use Rattle.trace_text.specs.declared.Line.TheVariants as line
 use Rattle.trace_text.specs.Lines.{Text, line_text}
 use Rattle.trace_turns.specs.Scenes.{Scene, is_turn, scene_after, told_in}
 use Rattle.trace_lines.specs.declared.Stage.{Stage}
 use Rattle.trace_lines.specs.declared.Stage.TheVariants as stage
-use Rattle.trace_lines.specs.declared.openings.Opening.TheVariants as opening
 use Rattle.trace_lines.specs.Setups.{opened_of}
 use Rattle.trace_lines.specs.Pieces.{closing_of, closing_text, opening_of}
 
@@ -19,8 +19,8 @@ pub data Runs : Scene → list.List ℕ → Text → Type 0 where
 
 -- where the trace stands: before its setup, running, or over
 pub data Traces : Stage → Scene → list.List ℕ → Text → Type 0 where
-  begins : {s : Scene} {bytes : list.List ℕ} {text : Text} {e : SetupEntry} → opening_of (entry_of bytes) true ≡ opening.Setup e → Traces (opened_of e s).stage (opened_of e s).scene (rest_of bytes) text
+  begins : {s : Scene} {bytes : list.List ℕ} {text : Text} {e : SetupEntry} → opening_of (entry_of bytes) true ≡ Ok e → Traces (opened_of e s).stage (opened_of e s).scene (rest_of bytes) text
       → Traces stage.Fresh s bytes ((opened_of e s).text ++ text)
-  lacks : {s : Scene} {bytes : list.List ℕ} → opening_of (entry_of bytes) true ≡ opening.Bad → Traces stage.Fresh s bytes (line_text line.Bad)
+  lacks : {s : Scene} {bytes : list.List ℕ} → opening_of (entry_of bytes) true ≡ Err Bad → Traces stage.Fresh s bytes (line_text line.Bad)
   runs : {s : Scene} {bytes : list.List ℕ} {text : Text} → Runs s bytes text → Traces stage.Running s bytes text
   rests : {s : Scene} {bytes : list.List ℕ} → Traces stage.Over s bytes []

@@ -4,20 +4,18 @@ use Rattle.std.proofs.Common.{◌≡◌, ℕ, zero, suc, ◌<◌, ◌≤◌, Boo
 use mathlib.Core.List as list
 use lib.ListN.{get_or-eq_default}
 use lib.Seq.{take-set-lt, set_out}
-use Rattle.thread_records.specs.declared.OwnerList.{OwnerList}
 use Rattle.thread_records.specs.declared.Record.{Record}
 use Rattle.thread_records.specs.Records.{empty_list, idle_record}
 use Rattle.turns.specs.Docks.{Dock, turn, docked}
 use Rattle.dock.specs.declared.Turn.{Turn}
 use Rattle.dock.specs.declared.Work.TheVariants as work
-use Rattle.dock.specs.Works.{Worked, table, worked_table}
+use Rattle.dock.specs.Works.{Worked, settled_thread, table, worked_table}
 use Rattle.dock.proofs.Works.{lent_read, work_turn}
 use Rattle.any_dock.specs.declared.AnySet.{AnySet}
 use Rattle.any_dock.specs.declared.AnySet.TheVariants.{Plain, Robust}
 use Rattle.any_dock.specs.Any.{AnyShared, work_on, dock_of}
 use Rattle.any_dock.proofs.Laws.{any_works, any_dock_lem}
-use Rattle.schedule.specs.Format.{entry_of}
-use Rattle.trace_turns.specs.Scenes.{Scene, brought_by, turn_at, place_at, seats_of, beyond, fetched_at, stored_at, read_in, worked_of, scene_after}
+use Rattle.trace_turns.specs.Scenes.{Scene, turn_at, place_at, seats_of, beyond, fetched_at, stored_at, read_in, worked_by, worked_of, scene_by, scene_after}
 
 -- no more are lent than are held, of which there are 16
 pub record Seated (s : Scene) : Type 0 where
@@ -66,11 +64,11 @@ module _ (n place : ℕ) (held : list.List Record) (few : n ≤ 16) (many : leng
       by-test false = many
 
 -- what work leaves, where a turn is settled
-settles : (n : ℕ) (w : Turn) (o : OwnerList) (set : AnySet) (slots custody cells : list.List ℕ) (t : Record) (records : list.List Record)
-    → worked_table (work_on n (work.Turn w) o set slots custody cells t) records
-    ≡ record { left = table (work_on n (work.Turn w) o set slots custody cells t).shared (lib.ListN.set records w.who.0 (work_on n (work.Turn w) o set slots custody cells t).settled.thread); report = (work_on n (work.Turn w) o set slots custody cells t).report; steps = (work_on n (work.Turn w) o set slots custody cells t).steps }
-settles n w o (Plain s) slots custody cells t records = refl
-settles n w o (Robust s) slots custody cells t records = refl
+settles : (n : ℕ) (w : Turn) (set : AnySet) (slots custody cells : list.List ℕ) (t : Record) (records : list.List Record)
+    → worked_table (work_on n (work.Turn w) set slots custody cells t) records
+    ≡ record { left = table (work_on n (work.Turn w) set slots custody cells t).shared (lib.ListN.set records w.who.0 (settled_thread (work_on n (work.Turn w) set slots custody cells t).settled)); report = (work_on n (work.Turn w) set slots custody cells t).report; steps = (work_on n (work.Turn w) set slots custody cells t).steps }
+settles n w (Plain s) slots custody cells t records = refl
+settles n w (Robust s) slots custody cells t records = refl
 
 module _ (s : Scene) (b : list.List ℕ) (seated : Seated s) where
   abbrev n : ℕ
@@ -80,25 +78,25 @@ module _ (s : Scene) (b : list.List ℕ) (seated : Seated s) where
   R = take n s.held
 
   abbrev W : ℕ → Record → Worked AnyShared
-  W k t = work_on k (work.Turn (turn_at b)) (brought_by (entry_of b) b) s.shared.set s.shared.slots s.shared.custody s.shared.cells t
+  W k t = work_on k (work.Turn (turn_at b)) s.shared.set s.shared.slots s.shared.custody s.shared.cells t
 
   long : length R ≡ n
   long = length-take-le n s.held (omega (arith, seated.lent, seated.held))
 
   -- with what the turn tells, and how many steps it took
-  pub scene_turn : turn (turn_at b).who (turn_at b).operation (brought_by (entry_of b) b) (dock_in s)
+  pub scene_turn : turn (turn_at b).who (turn_at b).operation (dock_in s)
       ≡ record { left = dock_in (scene_after s b); report = (worked_of n s.shared (read_in s b) b).report; steps = (worked_of n s.shared (read_in s b) b).steps }
-  unfolding scene_after worked_of
+  unfolding scene_after scene_by worked_by
   scene_turn =
-      sym (work_turn (turn_at b) (brought_by (entry_of b) b) (dock_in s))
-      ∙ sym (any_dock_lem (work.Turn (turn_at b)) (brought_by (entry_of b) b) s.shared.slots s.shared.custody s.shared.cells R s.shared.set)
+      sym (work_turn (turn_at b) (dock_in s))
+      ∙ sym (any_dock_lem (work.Turn (turn_at b)) s.shared.slots s.shared.custody s.shared.cells R s.shared.set)
       ∙ ap (docked dock_of)
-      (sym (any_works (work.Turn (turn_at b)) (brought_by (entry_of b) b) s.shared.slots s.shared.custody s.shared.cells R s.shared.set)
+      (sym (any_works (work.Turn (turn_at b)) s.shared.slots s.shared.custody s.shared.cells R s.shared.set)
       ∙ ap (λ (k : ℕ). worked_table (W k (get_or R (place_at b) (idle_record empty_list))) R) long
       ∙ ap (λ (t : Record). worked_table (W n t) R) (sym (fetched_as n (place_at b) s.held seated.lent seated.held))
-      ∙ settles n (turn_at b) (brought_by (entry_of b) b) s.shared.set s.shared.slots s.shared.custody s.shared.cells (read_in s b) R
-      ∙ ap (λ (l : list.List Record). record { left = table (W n (read_in s b)).shared l; report = (W n (read_in s b)).report; steps = (W n (read_in s b)).steps }) (sym (stored_as n (place_at b) s.held seated.lent seated.held (W n (read_in s b)).settled.thread)))
+      ∙ settles n (turn_at b) s.shared.set s.shared.slots s.shared.custody s.shared.cells (read_in s b) R
+      ∙ ap (λ (l : list.List Record). record { left = table (W n (read_in s b)).shared l; report = (W n (read_in s b)).report; steps = (W n (read_in s b)).steps }) (sym (stored_as n (place_at b) s.held seated.lent seated.held (settled_thread (W n (read_in s b)).settled))))
 
   pub seated_after : Seated (scene_after s b)
-  unfolding scene_after
-  seated_after = record { lent = seated.lent; held = stored_held n (place_at b) s.held seated.lent seated.held (worked_of n s.shared (read_in s b) b).settled.thread }
+  unfolding scene_after scene_by
+  seated_after = record { lent = seated.lent; held = stored_held n (place_at b) s.held seated.lent seated.held (settled_thread (worked_of n s.shared (read_in s b) b).settled) }

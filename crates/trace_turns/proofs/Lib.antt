@@ -1,4 +1,4 @@
-pub mod Parts
+pub mod Shorter
 pub mod Turning
 pub mod Rests
 pub mod Docks

@@ -1,23 +1,21 @@
-// What the trace tells of a turn, in one line or two.
+//! What the trace tells of a turn, in one line or two.
 ghost use Rattle.std.specs.Prelude.{◌≡◌, ◌+◌, ◌≤◌, length};
 ghost use Rattle.trace_text.specs.Laid.{LaidAs};
-ghost use Rattle.trace_turns.specs.Told.{accepted_as, event_of, entry_line, noted_text, told_text};
+ghost use Rattle.trace_turns.specs.Told.{accepted_as, event_of, noted_as, told_line, noted_line, told_text};
 
-use calls::{Noted, Progress, Report};
+use calls::{Note, Progress, Report};
 use dock::Turn;
 use trace_text::{EntryLine, Event, Line, put_line};
 use turns::Operation;
-use unique_index_set_enums::RecordNumber;
 
 fn accepted_as(operation: Operation) -> Event
     ensures { result ≡ accepted_as operation }
 {
     match operation {
         Operation::Start(_) => Event::Begin,
-        Operation::Step => Event::Step,
-        Operation::List => Event::List,
+        Operation::Step | Operation::Drain(_) => Event::Step,
+        Operation::List(_) => Event::List,
         Operation::Death => Event::Dead,
-        Operation::Drain(_) => Event::Step,
     }
 }
 
@@ -31,41 +29,57 @@ fn event_of(operation: Operation, progress: Progress) -> Event
     }
 }
 
-fn put_event(out: &mut [u8], at: usize, number: u64, who: RecordNumber, event: Event) -> usize
+// Stays: no plainer: `Event::from` would not say that the line is of what was noted.
+fn noted_as(note: Note) -> Event
+    ensures { result ≡ noted_as note }
+{
+    match note {
+        Note::Found(index) => Event::Found(index),
+        Note::Freed(index, owner) => Event::Freed(index, owner),
+    }
+}
+
+// Stays: no plainer as a struct of `out` and `at`: `put_line` takes both, and it would be made anew at each call, here and
+// wherever the room for lines is asked.
+fn put_entry(out: &mut [u8], at: usize, line: EntryLine) -> usize
     requires { at + 128 ≤ length out.old }
-    ensures laid_as { LaidAs out.old at (entry_line number who event) out.new result }
+    ensures laid { LaidAs out.old at (told_line line) out.new result }
     ensures upper_bound { result ≤ at + 128 }
 {
-    let line = EntryLine {
-        number: number,
-        who: who,
-        event: event,
-    };
     put_line(out, at, Line::Entry(line))
 }
 
-fn put_noted(out: &mut [u8], at: usize, number: u64, who: RecordNumber, noted: Noted) -> usize
+// What was found or freed, by the entry of that line.
+#[tactic(auto, using(trace_text::proofs::Laying::laid_none))]
+fn put_noted(out: &mut [u8], at: usize, line: EntryLine, noted: Option<Note>) -> usize
     requires { at + 128 ≤ length out.old }
-    ensures laid_as { LaidAs out.old at (noted_text number who noted) out.new result }
+    ensures laid { LaidAs out.old at (noted_line line noted) out.new result }
     ensures upper_bound { result ≤ at + 128 }
 {
     match noted {
-        Noted::Nothing => at,
-        Noted::Found(index) => put_event(out, at, number, who, Event::Found(index)),
-        Noted::Freed(index, owner) => put_event(out, at, number, who, Event::Freed(index, owner)),
+        None => at,
+        Some(note) => put_entry(
+            out,
+            at,
+            EntryLine {
+                event: noted_as(note),
+                ..line
+            },
+        ),
     }
 }
 
 // All that is told of the turn of an entry with this number.
 pub(crate) fn put_told(out: &mut [u8], at: usize, number: u64, turn: Turn, report: Report) -> usize
     requires { at + 256 ≤ length out.old }
-    ensures laid_as { LaidAs out.old at (told_text number turn report) out.new result }
+    ensures laid { LaidAs out.old at (told_text number turn report) out.new result }
     ensures upper_bound { result ≤ at + 256 }
 {
-    let who = turn.who;
-    let operation = turn.operation;
-    let noted = report.noted;
-    let progress = report.progress;
-    let behind = put_noted(out, at, number, who, noted);
-    put_event(out, behind, number, who, event_of(operation, progress))
+    let line = EntryLine {
+        number,
+        who: turn.who,
+        event: event_of(turn.operation, report.progress),
+    };
+    let behind = put_noted(out, at, line, report.noted);
+    put_entry(out, behind, line)
 }
