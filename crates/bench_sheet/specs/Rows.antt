@@ -89,7 +89,7 @@ pub record Ran : Type 0 where
 abbrev pub starts_call : Operation → Bool
 starts_call (Start request) = true
 starts_call Step = false
-starts_call List = false
+starts_call (List owners) = false
 starts_call Death = false
 starts_call (Drain budget) = false
 
@@ -113,7 +113,7 @@ ran_after e r t = ran_with e r (taken_after e (get_or r.taken e.who.0 0) t.steps
 
 unfoldable pub runs : list.List Entry → Ran → Ran
 runs [] r = r
-runs (e ∷ es) r = runs es (ran_after e r (turn e.who e.operation empty_list r.dock))
+runs (e ∷ es) r = runs es (ran_after e r (turn e.who e.operation r.dock))
 
 -- what comes out: what came back, the word or generation, and all slots or cells
 pub record Left : Type 0 where
@@ -139,3 +139,6 @@ pub record Row : Type 0 where
 
 abbrev pub computed : Row → Left
 computed row = left_by (runs row.turns (record { dock = row.start; taken = replicate records_lent 0; back = [] }))
+
+abbrev pub stated : Row → Left
+stated row = row.left

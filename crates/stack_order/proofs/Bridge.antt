@@ -1,4 +1,5 @@
 -- The plain set's own step, access by access, is the machine's, and leaves the same in the history. Assumes nothing.
+use Rattle.std.specs.Prelude.{None}
 use Prim.Native.Nat.{ℕ, ◌+◌, ◌-◌, ◌%◌}
 use mathlib.Core.Path.{◌≡◌, refl, ap}
 use mathlib.Core.Bool.{Bool, true, false, cond, not, ◌||◌}
@@ -11,18 +12,18 @@ use Rattle.unique_index_set_enums.specs.declared.ReleaseMode.TheVariants.{Defaul
 use Rattle.unique_index_set_enums.specs.declared.ReleaseState.TheVariants.{Unlocked, Locked}
 use Rattle.unique_index_set_enums.specs.declared.UniqueIndexSetAcquireFailure.TheVariants.{OutOfIndices, IsLocked}
 use Rattle.unique_index_set_enums.specs.Limits.{lock_acquire}
+use Rattle.calls.specs.declared.Answer.{Answer}
 use Rattle.calls.specs.declared.Answer.TheVariants as answer
 use Rattle.head_details.specs.Word as word
 use Rattle.custody.specs.declared.Custody.TheVariants.{Held}
 use Rattle.plain_places.specs.declared.Place.{Place}
 use Rattle.plain_places.specs.declared.Place.TheVariants.{AcquireLook, AcquireRead, AcquireExchange, AcquireWrite, ReleaseLook, ReleaseWrite, ReleaseExchange, BorrowedLook, LockedLook}
 use Rattle.plain_places.specs.Places.{may_release}
-use Rattle.plain_calls.specs.declared.marks.Mark.TheVariants.{Nothing, As}
 use Rattle.plain_calls.specs.declared.resumes.Saw.{Saw}
-use Rattle.plain_calls.specs.declared.resumes.Next.{Next}
-use Rattle.plain_calls.specs.declared.resumes.Next.TheVariants.{Going, Answered}
+use Rattle.std.specs.declared.ops.ControlFlow.{ControlFlow}
+use Rattle.std.specs.declared.ops.ControlFlow.TheVariants.{Continue, Break}
 use Rattle.plain_calls.specs.Resumes.{acquire_looked, release_looked, release_state, borrowed_indices, is_locked}
-use Rattle.plain_calls.specs.Marks.{release_mark}
+use Rattle.plain_calls.specs.Marks.{mark_as, release_mark}
 use Rattle.unique_index_set.specs.Accesses.{acquired_word, released_count, released_word}
 use Rattle.unique_index_set.specs.Custodies.{marked}
 use Rattle.unique_index_set.specs.Steps.{Shared, saw_at, next_at, shared_after}
@@ -46,12 +47,12 @@ abbrev pub shared_in : Shared → M.Shared
 shared_in s = record { word = s.set.head; slots = s.slots; custody = s.custody }
 
 -- where a record stands after its step
-abbrev pub stands_next : Next → M.Place
-stands_next (Going q) = place_in q
-stands_next (Answered a) = M.idle
+abbrev pub stands_next : ControlFlow Answer Place → M.Place
+stands_next (Continue q) = place_in q
+stands_next (Break a) = M.idle
 
 -- what is to be the same
-pub record Same (p : Place) (saw : Saw) (next : Next) (after : Shared) (f : M.Effect) : Type 0 where
+pub record Same (p : Place) (saw : Saw) (next : ControlFlow Answer Place) (after : Shared) (f : M.Effect) : Type 0 where
   pub shared : shared_in after ≡ f.shared
   pub stands : stands_next next ≡ f.place
   pub looks : looks_at p saw ≡ f.looks
@@ -62,21 +63,21 @@ pub record Same (p : Place) (saw : Saw) (next : Next) (after : Shared) (f : M.Ef
 
 -- an acquire's look, by its two tests
 acquire_judge_same : (p : Place) (saw : Saw) (after : Shared) (S : M.Shared) (x : Bool) (w : ℕ) (b c : Bool) → shared_in after ≡ S → call_at p ≡ acquire → looks_at p saw ≡ true → exchanges_at p ≡ x
-    → wins_at p saw ≡ false → ((n : Next) → orders_at p saw n ≡ ends_with acquire n)
-    → Same p saw (cond b (Answered (answer.NotAcquired OutOfIndices)) (cond c (Answered (answer.NotAcquired IsLocked)) (Going (AcquireRead w)))) after (M.acquire_judge S x w b c)
+    → wins_at p saw ≡ false → ((n : ControlFlow Answer Place) → orders_at p saw n ≡ ends_with acquire n)
+    → Same p saw (cond b (Break (answer.NotAcquired OutOfIndices)) (cond c (Break (answer.NotAcquired IsLocked)) (Continue (AcquireRead w)))) after (M.acquire_judge S x w b c)
 unfolding M.acquire_judge
-acquire_judge_same p saw after S x w true c e ca lo ex wi or = record { shared = e; stands = refl; looks = lo; exchanges = ex; wins = wi; orders = or _; ends = ap (λ (z : Called). ends_with z (Answered (answer.NotAcquired OutOfIndices))) ca }
-acquire_judge_same p saw after S x w false true e ca lo ex wi or = record { shared = e; stands = refl; looks = lo; exchanges = ex; wins = wi; orders = or _; ends = ap (λ (z : Called). ends_with z (Answered (answer.NotAcquired IsLocked))) ca }
+acquire_judge_same p saw after S x w true c e ca lo ex wi or = record { shared = e; stands = refl; looks = lo; exchanges = ex; wins = wi; orders = or _; ends = ap (λ (z : Called). ends_with z (Break (answer.NotAcquired OutOfIndices))) ca }
+acquire_judge_same p saw after S x w false true e ca lo ex wi or = record { shared = e; stands = refl; looks = lo; exchanges = ex; wins = wi; orders = or _; ends = ap (λ (z : Called). ends_with z (Break (answer.NotAcquired IsLocked))) ca }
 acquire_judge_same p saw after S x w false false e ca lo ex wi or = record { shared = e; stands = refl; looks = lo; exchanges = ex; wins = wi; orders = or _; ends = refl }
 
 -- a release's look, by its two tests
 release_judge_same : (p : Place) (saw : Saw) (after : Shared) (S : M.Shared) (x : Bool) (i : Index) (m : ReleaseMode) (who : RecordNumber) (w : ℕ) (y z : Bool)
-    → shared_in after ≡ record { word = S.word; slots = S.slots; custody = marked (cond (cond y false (not z)) Nothing (As i (Held who))) S.custody }
-    → call_at p ≡ release i m → looks_at p saw ≡ true → exchanges_at p ≡ x → wins_at p saw ≡ false → ((n : Next) → orders_at p saw n ≡ ends_with (release i m) n)
-    → Same p saw (cond (cond y false (not z)) (Going (ReleaseWrite i m w)) (Answered answer.NotBorrowed)) after (M.release_judge S x i.0 m who.0 w (y || z))
+    → shared_in after ≡ record { word = S.word; slots = S.slots; custody = marked (cond (cond y false (not z)) None (mark_as i (Held who))) S.custody }
+    → call_at p ≡ release i m → looks_at p saw ≡ true → exchanges_at p ≡ x → wins_at p saw ≡ false → ((n : ControlFlow Answer Place) → orders_at p saw n ≡ ends_with (release i m) n)
+    → Same p saw (cond (cond y false (not z)) (Continue (ReleaseWrite i m w)) (Break answer.NotBorrowed)) after (M.release_judge S x i.0 m who.0 w (y || z))
 unfolding M.release_judge
-release_judge_same p saw after S x i m who w true z e ca lo ex wi or = record { shared = e; stands = refl; looks = lo; exchanges = ex; wins = wi; orders = or _; ends = ap (λ (c : Called). ends_with c (Answered answer.NotBorrowed)) ca }
-release_judge_same p saw after S x i m who w false true e ca lo ex wi or = record { shared = e; stands = refl; looks = lo; exchanges = ex; wins = wi; orders = or _; ends = ap (λ (c : Called). ends_with c (Answered answer.NotBorrowed)) ca }
+release_judge_same p saw after S x i m who w true z e ca lo ex wi or = record { shared = e; stands = refl; looks = lo; exchanges = ex; wins = wi; orders = or _; ends = ap (λ (c : Called). ends_with c (Break answer.NotBorrowed)) ca }
+release_judge_same p saw after S x i m who w false true e ca lo ex wi or = record { shared = e; stands = refl; looks = lo; exchanges = ex; wins = wi; orders = or _; ends = ap (λ (c : Called). ends_with c (Break answer.NotBorrowed)) ca }
 release_judge_same p saw after S x i m who w false false e ca lo ex wi or = record { shared = e; stands = refl; looks = lo; exchanges = ex; wins = wi; orders = or _; ends = refl }
 
 -- the words and states that the set makes

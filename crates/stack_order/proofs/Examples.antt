@@ -54,7 +54,7 @@ dock = record {
 }
 
 abbrev entry : ℕ → Operation → Runs.Entry
-entry who o = record { who = record_number who; operation = o; brought = empty_list }
+entry who o = record { who = record_number who; operation = o }
 
 abbrev asked : ℕ → ℕ → ℕ → Operation
 asked call i mode = Start (record { call = call; index_or_room = i; owner = owner 0; mode = mode })
@@ -66,7 +66,7 @@ abbrev entries : list.List Runs.Entry
 entries =
     entry 0 (asked 1 0 0) ∷ entry 0 Step ∷ entry 0 Step ∷ entry 1 (asked 1 0 0) ∷ entry 1 Step ∷ entry 1 Step ∷ entry 0 Step ∷ entry 0 Step
     ∷ entry 1 Step ∷ entry 1 Step ∷ entry 1 Step ∷ entry 1 Death ∷ entry 1 Step
-    ∷ entry 2 (asked 1 0 0) ∷ entry 2 Step ∷ entry 2 List ∷ entry 9 Step
+    ∷ entry 2 (asked 1 0 0) ∷ entry 2 Step ∷ entry 2 (List empty_list) ∷ entry 9 Step
     ∷ entry 0 (asked 2 0 1) ∷ entry 0 (Drain 9) ∷ entry 0 (asked 3 0 0) ∷ entry 0 Step ∷ entry 0 (asked 4 0 0) ∷ entry 0 Step ∷ []
 
 abbrev after : Runs.World

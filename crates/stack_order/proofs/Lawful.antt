@@ -1,4 +1,5 @@
 -- The dock's turns are the machine's: after every accepted step and start the invariant and the history stand as they must. Assumes nothing.
+use Rattle.std.specs.Prelude.{Option, Some, None, Result, Ok, Err}
 use Prim.Native.Nat.{ℕ, zero, suc, ◌-◌, ◌%◌, ◌≤◌, ◌<◌}
 use native.Mathlib.Nat.{not-suc-le-zero, le_of_suc-le-suc}
 use native.Mathlib.Decide.{ℕ_discrete}
@@ -14,29 +15,27 @@ use lib.Seq.{get_or-set_same, get_or-set_other, set-get_or}
 use Rattle.unique_index_set_enums.specs.declared.Index.{Index}
 use Rattle.unique_index_set_enums.specs.declared.RecordNumber.{RecordNumber}
 use Rattle.unique_index_set_enums.proofs.Choice.{both_false}
+use Rattle.calls.specs.declared.Answer.{Answer}
 use Rattle.calls.specs.declared.Refusal.{Refusal}
 use Rattle.calls.specs.declared.Request.{Request}
-use Rattle.calls.specs.declared.Verdict.{Verdict}
-use Rattle.calls.specs.declared.Verdict.TheVariants.{Accepted, Refused}
 use Rattle.calls.proofs.Order.{accepted}
 use Rattle.thread_records.specs.declared.OwnerList.{OwnerList}
 use Rattle.thread_records.specs.declared.Record.{Record}
 use Rattle.thread_records.specs.Records.{empty_list, idle_record, live_record, not_alive, not_idle, not_calling}
 use Rattle.thread_records.specs.Effects.{Effect, unchanged}
 use Rattle.custody.specs.declared.Custody.{Custody}
-use Rattle.custody.specs.declared.Custody.TheVariants.{Free, Granting, Held, Giving, Unknown}
+use Rattle.custody.specs.declared.Custody.TheVariants.{Free, Granting, Held, Giving}
+use Rattle.custody.specs.declared.UnknownEntry.{UnknownEntry}
 use Rattle.custody.specs.Entry.{entry_of, custody_of}
-use Rattle.custody.proofs.Laws.{known, entry_custody}
+use Rattle.custody.proofs.Laws.{entry_custody}
 use Rattle.plain_places.specs.declared.Place.{Place}
 use Rattle.plain_places.specs.declared.Place.TheVariants.{AcquireLook, AcquireRead, AcquireExchange, AcquireWrite, ReleaseLook, ReleaseWrite, ReleaseExchange, BorrowedLook, LockedLook}
-use Rattle.plain_places.specs.declared.Opened.{Opened}
-use Rattle.plain_places.specs.declared.Opened.TheVariants.{At, Damaged}
 use Rattle.plain_places.specs.Places.{sound, opened_at, closed_at}
 use Rattle.plain_places.proofs.Laws.{opened_closed}
 use Rattle.plain_calls.specs.declared.asks.Asked.{Asked}
 use Rattle.plain_calls.specs.declared.asks.Asked.TheVariants as asked
-use Rattle.plain_calls.specs.declared.resumes.Next.{Next}
-use Rattle.plain_calls.specs.declared.resumes.Next.TheVariants.{Going, Answered}
+use Rattle.std.specs.declared.ops.ControlFlow.{ControlFlow}
+use Rattle.std.specs.declared.ops.ControlFlow.TheVariants.{Continue, Break}
 use Rattle.plain_calls.specs.Asks.{asked_of}
 use Rattle.plain_calls.specs.Marks.{held_by}
 use Rattle.unique_index_set.specs.Custodies.{holds}
@@ -57,9 +56,9 @@ pub clash : {X : Type 0} → false ≡ true → X
 clash w = absurd (subst T (sym w) tt)
 
 -- ---- a dock as a state of the machine
-abbrev pub stands_opened : Opened → M.Place
-stands_opened (At p) = place_in p
-stands_opened Damaged = M.idle
+abbrev pub stands_opened : Option Place → M.Place
+stands_opened (Some p) = place_in p
+stands_opened None = M.idle
 
 abbrev pub standing : ℕ → Record → M.Place
 standing cap t = cond (eqb t.call.place 0) M.idle (stands_opened (opened_at cap t.call))
@@ -111,21 +110,21 @@ whole_at : (cap : ℕ) (q : Place) (l : OwnerList) → sound cap q ≡ true → 
 whole_at cap q l e = rw (entered q, opened_closed cap q e) refl
 
 -- after a step: a place that it goes on to is sound
-abbrev SoundNext : ℕ → Next → Type 0
-SoundNext cap (Going q) = sound cap q ≡ true
-SoundNext cap (Answered a) = Unit {0}
+abbrev SoundNext : ℕ → ControlFlow Answer Place → Type 0
+SoundNext cap (Continue q) = sound cap q ≡ true
+SoundNext cap (Break a) = Unit {0}
 
-stands_next_lem : (cap : ℕ) (n : Next) (l : OwnerList) → SoundNext cap n → in_rec cap (thread_after n l) ≡ M.at (stands_next n)
-stands_next_lem cap (Going q) l e = ap M.at (stands_at cap q l e)
-stands_next_lem cap (Answered a) l e = refl
+stands_next_lem : (cap : ℕ) (n : ControlFlow Answer Place) (l : OwnerList) → SoundNext cap n → in_rec cap (thread_after n l) ≡ M.at (stands_next n)
+stands_next_lem cap (Continue q) l e = ap M.at (stands_at cap q l e)
+stands_next_lem cap (Break a) l e = refl
 
-whole_next : (cap : ℕ) (n : Next) (l : OwnerList) → SoundNext cap n → damaged_at cap (thread_after n l) ≡ false
-whole_next cap (Going q) l e = whole_at cap q l e
-whole_next cap (Answered a) l e = refl
+whole_next : (cap : ℕ) (n : ControlFlow Answer Place) (l : OwnerList) → SoundNext cap n → damaged_at cap (thread_after n l) ≡ false
+whole_next cap (Continue q) l e = whole_at cap q l e
+whole_next cap (Break a) l e = refl
 
-taken_next : (n : Next) (events : list.List Event) → if_taken (report_after n).progress events ≡ events
-taken_next (Going q) events = refl
-taken_next (Answered a) events = refl
+taken_next : (n : ControlFlow Answer Place) (events : list.List Event) → if_taken (report_after n).progress events ≡ events
+taken_next (Continue q) events = refl
+taken_next (Break a) events = refl
 
 -- ---- what a record that is ready is
 double : (b : Bool) → not b ≡ false → b ≡ true
@@ -191,11 +190,11 @@ module _ (size : ℕ) (s : Shared) (records : list.List Record) (h : list.List E
     sound_after : (p : Place) → sound cap p ≡ true → SoundNext cap (next_at p s)
     sound_after p e = by_next (next_at p s) refl
       where
-        by_next : (m : Next) → next_at p s ≡ m → SoundNext cap m
-        by_next (Going q) is = (going_sound _ _ _ (next_at p s) q is (nearer p s e)).0
-        by_next (Answered a) is = tt
+        by_next : (m : ControlFlow Answer Place) → next_at p s ≡ m → SoundNext cap m
+        by_next (Continue q) is = (going_sound _ _ _ (next_at p s) q is (nearer p s e)).0
+        by_next (Break a) is = tt
 
-    advanced_leaves : (p : Place) → step_judged n who s t ≡ Accepted → opened_in s t ≡ At p → sound cap p ≡ true → Leaves (advanced who p t.list s) (step_event who p (saw_at p s) (next_at p s) ∷ [])
+    advanced_leaves : (p : Place) → step_judged n who s t ≡ Ok tt → opened_in s t ≡ Some p → sound cap p ≡ true → Leaves (advanced who p t.list s) (step_event who p (saw_at p s) (next_at p s) ∷ [])
     unfolding advanced shared_after Young
     advanced_leaves p j o e y =
         let k = taken_next (next_at p s) (step_event who p (saw_at p s) (next_at p s) ∷ []) in
@@ -242,19 +241,19 @@ module _ (size : ℕ) (s : Shared) (records : list.List Record) (h : list.List E
 
     opened_leaves : (p : Place) → Ready n who s t p → Leaves (step_of n who s t) (opened_event who (opened_in s t) s)
     opened_leaves p r =
-        subst⁻¹ (λ (z : Opened). Leaves (step_of n who s t) (opened_event who z s)) r.opened
+        subst⁻¹ (λ (z : Option Place). Leaves (step_of n who s t) (opened_event who z s)) r.opened
         (subst⁻¹ (λ (u : Effect Shared). Leaves u (step_event who p (saw_at p s) (next_at p s) ∷ [])) (stepped n who s t p r) (advanced_leaves p r.judged r.opened (ready_sound n who s t p r)))
 
-    refused_step : (why : Refusal) → step_judged n who s t ≡ Refused why → step_of n who s t ≡ unchanged s t why
+    refused_step : (why : Refusal) → step_judged n who s t ≡ Err why → step_of n who s t ≡ unchanged s t why
     unfolding step_of
     refused_step why e = rw e refl
 
     pub step_turn : Leaves (step_of n who s t) (opened_event who (opened_in s t) s)
     step_turn = by-verdict (step_judged n who s t) refl
       where
-        by-verdict : (v : Verdict) → step_judged n who s t ≡ v → Leaves (step_of n who s t) (opened_event who (opened_in s t) s)
-        by-verdict (Refused why) e = subst⁻¹ (λ (u : Effect Shared). Leaves u (opened_event who (opened_in s t) s)) (refused_step why e) (refused_leaves why (opened_event who (opened_in s t) s))
-        by-verdict Accepted e = accepted_ready n who s t e (Leaves (step_of n who s t) (opened_event who (opened_in s t) s)) opened_leaves
+        by-verdict : (v : Result (Unit {0}) Refusal) → step_judged n who s t ≡ v → Leaves (step_of n who s t) (opened_event who (opened_in s t) s)
+        by-verdict (Err why) e = subst⁻¹ (λ (u : Effect Shared). Leaves u (opened_event who (opened_in s t) s)) (refused_step why e) (refused_leaves why (opened_event who (opened_in s t) s))
+        by-verdict (Ok u) e = accepted_ready n who s t e (Leaves (step_of n who s t) (opened_event who (opened_in s t) s)) opened_leaves
 
     -- ---- a start
     enter_leaves : (p : Place) (custody : list.List ℕ) (e : Event) (T : Turned) → who.0 < n → sound cap p ≡ true → Turns cap (state_of s records) T
@@ -284,46 +283,46 @@ module _ (size : ℕ) (s : Shared) (records : list.List Record) (h : list.List E
         second true k = k
         second false k = clash k
 
-        by-entry : (c : Custody) → custody_of (get_or s.custody i.0 0) ≡ c → held_by who c ≡ true → get_or s.custody i.0 0 % 256 ≡ 2
-        by-entry Free is k = clash k
-        by-entry (Granting q) is k = clash k
-        by-entry (Giving q q') is k = clash k
-        by-entry Unknown is k = clash k
-        by-entry (Held q) is k =
-            let v : entry_of (Held q) ≡ get_or s.custody i.0 0 = ap entry_of (sym is) ∙ entry_custody (get_or s.custody i.0 0) (ap known is) in
+        by-entry : (c : Result Custody UnknownEntry) → custody_of (get_or s.custody i.0 0) ≡ c → held_by who c ≡ true → get_or s.custody i.0 0 % 256 ≡ 2
+        by-entry (Ok Free) is k = clash k
+        by-entry (Ok (Granting q)) is k = clash k
+        by-entry (Ok (Giving q q')) is k = clash k
+        by-entry (Err u) is k = clash k
+        by-entry (Ok (Held q)) is k =
+            let v : entry_of (Held q) ≡ get_or s.custody i.0 0 = entry_custody (get_or s.custody i.0 0) (Held q) is in
             omega (arith, v)
 
-    started_leaves : (a : Asked) → start_judged n who a s t ≡ Accepted → Leaves (started_from a who s t) (start_event who a ∷ [])
+    started_leaves : (a : Option Asked) → start_judged n who a s t ≡ Ok tt → Leaves (started_from a who s t) (start_event who a ∷ [])
     unfolding start_verdict
-    started_leaves asked.Acquire e y =
-        let p = accepted (start_tests n who cap (length s.slots) s.custody asked.Acquire t) e in
-        enter_leaves AcquireLook s.custody (start_event who asked.Acquire) _ (resting t n who p.ready).0 refl (acquires who.0 (lives p.ready) (idles p.ready)) refl refl refl
-    started_leaves asked.BorrowedIndices e y =
-        let p = accepted (start_tests n who cap (length s.slots) s.custody asked.BorrowedIndices t) e in
-        enter_leaves BorrowedLook s.custody (start_event who asked.BorrowedIndices) _ (resting t n who p.ready).0 refl (counts_out who.0 (lives p.ready) (idles p.ready)) refl refl refl
-    started_leaves asked.IsLocked e y =
-        let p = accepted (start_tests n who cap (length s.slots) s.custody asked.IsLocked t) e in
-        enter_leaves LockedLook s.custody (start_event who asked.IsLocked) _ (resting t n who p.ready).0 refl (asks who.0 (lives p.ready) (idles p.ready)) refl refl refl
-    started_leaves (asked.Release i m) e y =
-        let p = accepted (start_tests n who cap (length s.slots) s.custody (asked.Release i m) t) e in
+    started_leaves (Some asked.Acquire) e y =
+        let p = accepted (start_tests n who cap (length s.slots) s.custody (Some asked.Acquire) t) e in
+        enter_leaves AcquireLook s.custody (start_event who (Some asked.Acquire)) _ (resting t n who p.ready).0 refl (acquires who.0 (lives p.ready) (idles p.ready)) refl refl refl
+    started_leaves (Some asked.BorrowedIndices) e y =
+        let p = accepted (start_tests n who cap (length s.slots) s.custody (Some asked.BorrowedIndices) t) e in
+        enter_leaves BorrowedLook s.custody (start_event who (Some asked.BorrowedIndices)) _ (resting t n who p.ready).0 refl (counts_out who.0 (lives p.ready) (idles p.ready)) refl refl refl
+    started_leaves (Some asked.IsLocked) e y =
+        let p = accepted (start_tests n who cap (length s.slots) s.custody (Some asked.IsLocked) t) e in
+        enter_leaves LockedLook s.custody (start_event who (Some asked.IsLocked)) _ (resting t n who p.ready).0 refl (asks who.0 (lives p.ready) (idles p.ready)) refl refl refl
+    started_leaves (Some (asked.Release i m)) e y =
+        let p = accepted (start_tests n who cap (length s.slots) s.custody (Some (asked.Release i m)) t) e in
         let inside : ltb i.0 cap ≡ true = release_in n who i m s t e in
-        enter_leaves (ReleaseLook i m) (set s.custody i.0 (M.giving who.0)) (start_event who (asked.Release i m)) _ (resting t n who p.ready).0 inside
+        enter_leaves (ReleaseLook i m) (set s.custody i.0 (M.giving who.0)) (start_event who (Some (asked.Release i m))) _ (resting t n who p.ready).0 inside
         (releases who.0 i.0 m (lives p.ready) (idles p.ready) (ltb-true i.0 cap inside, held_entry i (double (holds who i s.custody) p.held))) refl refl refl
-    started_leaves asked.NotKnown e y =
-        let p = accepted (start_tests n who cap (length s.slots) s.custody asked.NotKnown t) e in
+    started_leaves None e y =
+        let p = accepted (start_tests n who cap (length s.slots) s.custody None t) e in
         clash (sym p.known)
 
-    refused_start : (request : Request) (why : Refusal) → start_judged n who (asked_of request) s t ≡ Refused why → start_of n who request s t ≡ unchanged s t why
+    refused_start : (request : Request) (why : Refusal) → start_judged n who (asked_of request) s t ≡ Err why → start_of n who request s t ≡ unchanged s t why
     unfolding start_of
     refused_start request why e = rw e refl
 
-    accepted_start : (request : Request) → start_judged n who (asked_of request) s t ≡ Accepted → start_of n who request s t ≡ started_from (asked_of request) who s t
+    accepted_start : (request : Request) → start_judged n who (asked_of request) s t ≡ Ok tt → start_of n who request s t ≡ started_from (asked_of request) who s t
     unfolding start_of
     accepted_start request e = rw e refl
 
     pub start_turn : (request : Request) → Leaves (start_of n who request s t) (start_event who (asked_of request) ∷ [])
     start_turn request = by-verdict (start_judged n who (asked_of request) s t) refl
       where
-        by-verdict : (v : Verdict) → start_judged n who (asked_of request) s t ≡ v → Leaves (start_of n who request s t) (start_event who (asked_of request) ∷ [])
-        by-verdict (Refused why) e = subst⁻¹ (λ (u : Effect Shared). Leaves u (start_event who (asked_of request) ∷ [])) (refused_start request why e) (refused_leaves why (start_event who (asked_of request) ∷ []))
-        by-verdict Accepted e = subst⁻¹ (λ (u : Effect Shared). Leaves u (start_event who (asked_of request) ∷ [])) (accepted_start request e) (started_leaves (asked_of request) e)
+        by-verdict : (v : Result (Unit {0}) Refusal) → start_judged n who (asked_of request) s t ≡ v → Leaves (start_of n who request s t) (start_event who (asked_of request) ∷ [])
+        by-verdict (Err why) e = subst⁻¹ (λ (u : Effect Shared). Leaves u (start_event who (asked_of request) ∷ [])) (refused_start request why e) (refused_leaves why (start_event who (asked_of request) ∷ []))
+        by-verdict (Ok u) e = subst⁻¹ (λ (u : Effect Shared). Leaves u (start_event who (asked_of request) ∷ [])) (accepted_start request e) (started_leaves (asked_of request) e)

@@ -1,4 +1,5 @@
 -- Every operation keeps what is promised, and so does a whole run: starts, steps, lists, deaths, and drains by their steps. Assumes nothing.
+use Rattle.std.specs.Prelude.{Result, Ok, Err}
 use Prim.Native.Nat.{ℕ, zero, suc, ◌+◌, ◌<◌}
 use mathlib.Core.Path.{◌≡◌, refl, sym, ap, ◌∙◌, subst, subst⁻¹}
 use mathlib.Core.Bool.{Bool, true, false, cond}
@@ -8,9 +9,8 @@ use native.Mathlib.Omega.{arith}
 use lib.ListN.{length, get_or, set, length-set, replicate}
 use lib.Seq.{get_or-set_same, set-get_or, set-set}
 use Rattle.unique_index_set_enums.specs.declared.RecordNumber.{RecordNumber}
+use Rattle.calls.specs.declared.Refusal.{Refusal}
 use Rattle.calls.specs.declared.SetKind.TheVariants as kind
-use Rattle.calls.specs.declared.Verdict.{Verdict}
-use Rattle.calls.specs.declared.Verdict.TheVariants.{Accepted, Refused}
 use Rattle.calls.specs.Order.{verdict_of}
 use Rattle.calls.specs.Runs.{Run, run_from}
 use Rattle.calls.proofs.Order.{accepted}
@@ -96,9 +96,9 @@ module _ (size : ℕ) (who : RecordNumber) where
     unfolding list_of
     list_turn brought = by-verdict (verdict_of (list_tests kind.Plain t n who brought))
       where
-        by-verdict : (v : Verdict) → Good size s (set records who.0 (record_judged v t (with_list t (written_list brought))).thread) h
-        by-verdict (Refused why) = nothing_done size s records h g who
-        by-verdict Accepted = list_keeps (written_list brought)
+        by-verdict : (v : Result (Unit {0}) Refusal) → Good size s (set records who.0 (record_judged v t (with_list t (written_list brought))).thread) h
+        by-verdict (Err why) = nothing_done size s records h g who
+        by-verdict (Ok u) = list_keeps (written_list brought)
 
     -- a death marks its record
     death_keeps : not_alive t n who ≡ false → Good size s (set records who.0 (marked_dead t)) h
@@ -120,9 +120,9 @@ module _ (size : ℕ) (who : RecordNumber) where
     unfolding death_of
     death_turn = by-verdict (verdict_of (death_tests t n who)) refl
       where
-        by-verdict : (v : Verdict) → verdict_of (death_tests t n who) ≡ v → Good size s (set records who.0 (record_judged v t (marked_dead t)).thread) h
-        by-verdict (Refused why) e = nothing_done size s records h g who
-        by-verdict Accepted e = death_keeps (accepted (death_tests t n who) e).ready
+        by-verdict : (v : Result (Unit {0}) Refusal) → verdict_of (death_tests t n who) ≡ v → Good size s (set records who.0 (record_judged v t (marked_dead t)).thread) h
+        by-verdict (Err why) e = nothing_done size s records h g who
+        by-verdict (Ok u) e = death_keeps (accepted (death_tests t n who) e).ready
 
   -- ---- a drain, by its steps
   module _ (records : list.List Record) (low : who.0 < length records) where
@@ -167,31 +167,31 @@ module _ (size : ℕ) (who : RecordNumber) where
 abbrev Leaves : ℕ → RecordNumber → list.List Record → list.List Event → Run (Effect Shared) → list.List Event → Type 0
 Leaves size who records h u new = Young (new ++ h) → Good size u.left.shared (set records who.0 u.left.thread) (new ++ h)
 
-module _ (size : ℕ) (s : Shared) (records : list.List Record) (h : list.List Event) (g : Good size s records h) (who : RecordNumber) (brought : OwnerList) where
+module _ (size : ℕ) (s : Shared) (records : list.List Record) (h : list.List Event) (g : Good size s records h) (who : RecordNumber) where
   abbrev N : ℕ
   N = length records
 
   abbrev T : Record
   T = get_or records who.0 (idle_record empty_list)
 
-  drained_leaves : (b : ℕ) (v : Verdict) → step_judged N who s T ≡ v → Leaves size who records h (drains.drained v (again N who) b s T) (steps_events (drains.drained v (again N who) b s T).steps N who s T)
+  drained_leaves : (b : ℕ) (v : Result (Unit {0}) Refusal) → step_judged N who s T ≡ v → Leaves size who records h (drains.drained v (again N who) b s T) (steps_events (drains.drained v (again N who) b s T).steps N who s T)
   unfolding steps_events
-  drained_leaves b (Refused why) e y = nothing_done size s records h g who
-  drained_leaves b Accepted e y =
+  drained_leaves b (Err why) e y = nothing_done size s records h g who
+  drained_leaves b (Ok u) e y =
       let low = steps-here e in
       let q : (run_from (again N who) drains.going b 0 (drains.begun s T)).steps ≡ takes who records b (drains.begun s T) = takes_is who records b 0 (drains.begun s T) ∙ omega arith in
       let z = subst (λ (k : ℕ). Young (steps_events k N who s T ++ h)) q y in
       subst⁻¹ (λ (k : ℕ). Good size (run_from (again N who) drains.going b 0 (drains.begun s T)).left.shared (set records who.0 (run_from (again N who) drains.going b 0 (drains.begun s T)).left.thread) (steps_events k N who s T ++ h)) q
       (drain_steps size who records low b 0 (drains.begun s T) h (nothing_done size s records h g who) z)
     where
-      steps-here : step_judged N who s T ≡ Accepted → who.0 < N
+      steps-here : step_judged N who s T ≡ Ok tt → who.0 < N
       steps-here k = (calling T N who (step_passed N who s.set.capacity (length s.slots) (length s.custody) (opened_in s T) T k).ready).0
 
-  pub entry_leaves : (o : Operation) → Leaves size who records h (plain_turn_of N who o brought s T) (events_of N who o brought s T)
+  pub entry_leaves : (o : Operation) → Leaves size who records h (plain_turn_of N who o s T) (events_of N who o s T)
   unfolding drain_of
   entry_leaves (Start request) = start_turn size s records h g who request
   entry_leaves Step = step_turn size s records h g who
-  entry_leaves List = λ y. list_turn size who s records h g brought
+  entry_leaves (List owners) = λ y. list_turn size who s records h g owners
   entry_leaves Death = λ y. death_turn size who s records h g
   entry_leaves (Drain budget) = drained_leaves budget (step_judged N who s T) refl
 
@@ -211,10 +211,10 @@ module _ (size : ℕ) where
   after_good : (w : World) (e : Entry) → GoodWorld w → Young (after w e).history → GoodWorld (after w e)
   unfolding after
   after_good w e g y =
-      let u = plain_turn_of (length w.dock.records) e.who e.operation e.brought w.dock.shared (get_or w.dock.records e.who.0 (idle_record empty_list)) in
+      let u = plain_turn_of (length w.dock.records) e.who e.operation w.dock.shared (get_or w.dock.records e.who.0 (idle_record empty_list)) in
       subst (λ (d : Turned (Table Shared)). Good size d.left.shared d.left.records (events e w.dock ++ w.history))
-      (there (λ k s t. plain_turn_of k e.who e.operation e.brought s t) e.who w.dock.shared w.dock.records u e.who.0 refl refl)
-      (entry_leaves size w.dock.shared w.dock.records w.history g e.who e.brought e.operation y)
+      (there (λ k s t. plain_turn_of k e.who e.operation s t) e.who w.dock.shared w.dock.records u e.who.0 refl refl)
+      (entry_leaves size w.dock.shared w.dock.records w.history g e.who e.operation y)
 
   pub ran_good : (w : World) (es : list.List Entry) → GoodWorld w → Young (ran w es).history → GoodWorld (ran w es)
   unfolding ran
@@ -227,10 +227,10 @@ module _ (size : ℕ) where
 abbrev world : Shared → list.List Record → list.List Event → World
 world s records h = record { dock = record { shared = s; records = records }; history = h }
 
-abbrev step_by : RecordNumber → OwnerList → Entry
-step_by who brought = record { who = who; operation = Step; brought = brought }
+abbrev step_by : RecordNumber → Entry
+step_by who = record { who = who; operation = Step }
 
-module _ (who : RecordNumber) (brought : OwnerList) (records : list.List Record) (low : who.0 < length records) where
+module _ (who : RecordNumber) (records : list.List Record) (low : who.0 < length records) where
   abbrev next : Effect Shared → Effect Shared
   next e = again (length records) who e
 
@@ -251,28 +251,28 @@ module _ (who : RecordNumber) (brought : OwnerList) (records : list.List Record)
       by-test true q = q
       by-test false q = refl
 
-  one_on : (e : Effect Shared) (h : list.List Event) → after (world e.shared (at e) h) (step_by who brought) ≡ world (next e).shared (at (next e)) (step_events (length records) who e.shared e.thread ++ h)
+  one_on : (e : Effect Shared) (h : list.List Event) → after (world e.shared (at e) h) (step_by who) ≡ world (next e).shared (at (next e)) (step_events (length records) who e.shared e.thread ++ h)
   unfolding after
   one_on e h =
-      ap (λ (d : Turned (Table Shared)). record { dock = d.left; history = events (step_by who brought) (record { shared = e.shared; records = at e }) ++ h })
-      (sym (there (λ k s t. plain_turn_of k who Step brought s t) who e.shared (at e) (plain_turn_of (length (at e)) who Step brought e.shared (get_or (at e) who.0 (idle_record empty_list))) who.0 refl refl))
+      ap (λ (d : Turned (Table Shared)). record { dock = d.left; history = events (step_by who) (record { shared = e.shared; records = at e }) ++ h })
+      (sym (there (λ k s t. plain_turn_of k who Step s t) who e.shared (at e) (plain_turn_of (length (at e)) who Step e.shared (get_or (at e) who.0 (idle_record empty_list))) who.0 refl refl))
       ∙ ap (λ (k : ℕ). world (step_of k who e.shared (get_or (at e) who.0 (idle_record empty_list))).shared (set (at e) who.0 (step_of k who e.shared (get_or (at e) who.0 (idle_record empty_list))).thread) (step_events k who e.shared (get_or (at e) who.0 (idle_record empty_list)) ++ h)) (length-set records who.0 e.thread)
       ∙ ap (λ (u : Record). world (step_of (length records) who e.shared u).shared (set (at e) who.0 (step_of (length records) who e.shared u).thread) (step_events (length records) who e.shared u ++ h)) (get_or-set_same records who.0 e.thread (idle_record empty_list) low)
       ∙ ap (λ (l : list.List Record). world (next e).shared l (step_events (length records) who e.shared e.thread ++ h)) (set-set records who.0 e.thread (next e).thread)
 
   steps_ran : (m : ℕ) (e : Effect Shared) (h : list.List Event)
-      → ran (world e.shared (at e) h) (replicate m (step_by who brought)) ≡ world (steps_on m e).shared (at (steps_on m e)) (steps_events m (length records) who e.shared e.thread ++ h)
+      → ran (world e.shared (at e) h) (replicate m (step_by who)) ≡ world (steps_on m e).shared (at (steps_on m e)) (steps_events m (length records) who e.shared e.thread ++ h)
   unfolding ran steps_on steps_events
   steps_ran zero e h = refl
   steps_ran (suc m) e h =
-      ap (λ (w : World). ran w (replicate m (step_by who brought))) (one_on e h)
+      ap (λ (w : World). ran w (replicate m (step_by who))) (one_on e h)
       ∙ steps_ran m (next e) (step_events (length records) who e.shared e.thread ++ h)
       ∙ ap (world (steps_on m (next e)).shared (at (steps_on m (next e)))) (sym (append_assoc (steps_events m (length records) who (next e).shared (next e).thread) (step_events (length records) who e.shared e.thread) h))
 
-abbrev drain_by : RecordNumber → OwnerList → ℕ → Entry
-drain_by who brought budget = record { who = who; operation = Drain budget; brought = brought }
+abbrev drain_by : RecordNumber → ℕ → Entry
+drain_by who budget = record { who = who; operation = Drain budget }
 
-module _ (who : RecordNumber) (brought : OwnerList) (budget : ℕ) (w : World) where
+module _ (who : RecordNumber) (budget : ℕ) (w : World) where
   abbrev s : Shared
   s = w.dock.shared
 
@@ -282,28 +282,28 @@ module _ (who : RecordNumber) (brought : OwnerList) (budget : ℕ) (w : World) w
   abbrev self : Record
   self = get_or records who.0 (idle_record empty_list)
 
-  abbrev drain : Verdict → Run (Effect Shared)
+  abbrev drain : Result (Unit {0}) Refusal → Run (Effect Shared)
   drain v = drains.drained v (again (length records) who) budget s self
 
-  drain-world : (v : Verdict) → step_judged (length records) who s self ≡ v
-      → world (drain v).left.shared (set records who.0 (drain v).left.thread) (steps_events (drain v).steps (length records) who s self ++ w.history) ≡ ran w (replicate (drain v).steps (step_by who brought))
+  drain-world : (v : Result (Unit {0}) Refusal) → step_judged (length records) who s self ≡ v
+      → world (drain v).left.shared (set records who.0 (drain v).left.thread) (steps_events (drain v).steps (length records) who s self ++ w.history) ≡ ran w (replicate (drain v).steps (step_by who))
   unfolding ran steps_events
-  drain-world (Refused why) e = ap (λ (l : list.List Record). world s l w.history) (set-get_or records who.0 (idle_record empty_list))
-  drain-world Accepted e =
+  drain-world (Err why) e = ap (λ (l : list.List Record). world s l w.history) (set-get_or records who.0 (idle_record empty_list))
+  drain-world (Ok u) e =
       let low = (calling self (length records) who (step_passed (length records) who s.set.capacity (length s.slots) (length s.custody) (opened_in s self) self e).ready).0 in
       let e₀ = drains.begun s self in
       let k = takes who records budget e₀ in
-      let q : (drain Accepted).steps ≡ k = takes_is who records budget 0 e₀ ∙ omega arith in
-      ap (λ (u : Effect Shared). world u.shared (set records who.0 u.thread) (steps_events (drain Accepted).steps (length records) who s self ++ w.history)) (left_is who brought records low budget 0 e₀)
-      ∙ ap (λ (m : ℕ). world (steps_on who brought records low k e₀).shared (set records who.0 (steps_on who brought records low k e₀).thread) (steps_events m (length records) who s self ++ w.history)) q
-      ∙ sym (steps_ran who brought records low k e₀ w.history)
-      ∙ ap (λ (l : list.List Record). ran (world s l w.history) (replicate k (step_by who brought))) (set-get_or records who.0 (idle_record empty_list))
-      ∙ ap (λ (m : ℕ). ran w (replicate m (step_by who brought))) (sym q)
+      let q : (drain (Ok tt)).steps ≡ k = takes_is who records budget 0 e₀ ∙ omega arith in
+      ap (λ (u : Effect Shared). world u.shared (set records who.0 u.thread) (steps_events (drain (Ok tt)).steps (length records) who s self ++ w.history)) (left_is who records low budget 0 e₀)
+      ∙ ap (λ (m : ℕ). world (steps_on who records low k e₀).shared (set records who.0 (steps_on who records low k e₀).thread) (steps_events m (length records) who s self ++ w.history)) q
+      ∙ sym (steps_ran who records low k e₀ w.history)
+      ∙ ap (λ (l : list.List Record). ran (world s l w.history) (replicate k (step_by who))) (set-get_or records who.0 (idle_record empty_list))
+      ∙ ap (λ (m : ℕ). ran w (replicate m (step_by who))) (sym q)
 
   -- so that what is proved after each operation holds after each step of a drain too
-  pub drain_is_steps : ran w (drain_by who brought budget ∷ []) ≡ ran w (replicate (turned (drain_by who brought budget) w.dock).steps (step_by who brought))
+  pub drain_is_steps : ran w (drain_by who budget ∷ []) ≡ ran w (replicate (turned (drain_by who budget) w.dock).steps (step_by who))
   unfolding ran after drain_of
   drain_is_steps =
-      ap (λ (d : Turned (Table Shared)). record { dock = d.left; history = events (drain_by who brought budget) w.dock ++ w.history })
-      (sym (there (λ k s t. plain_turn_of k who (Drain budget) brought s t) who s records (plain_turn_of (length records) who (Drain budget) brought s self) who.0 refl refl))
+      ap (λ (d : Turned (Table Shared)). record { dock = d.left; history = events (drain_by who budget) w.dock ++ w.history })
+      (sym (there (λ k s t. plain_turn_of k who (Drain budget) s t) who s records (plain_turn_of (length records) who (Drain budget) s self) who.0 refl refl))
       ∙ drain-world (step_judged (length records) who s self) refl

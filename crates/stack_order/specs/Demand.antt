@@ -1,5 +1,5 @@
 -- Demand 3: what holds of a plain set after every run.
-use Rattle.std.specs.Prelude.{ℕ, zero, suc, ◌+◌, ◌≤◌, ◌<◌, ◌≡◌, ◌↔◌, Bool, true, false, cond, List, [], ◌∷◌, ◌++◌, map, eqb, ltb, length, get_or}
+use Rattle.std.specs.Prelude.{ℕ, zero, suc, ◌+◌, ◌≤◌, ◌<◌, ◌≡◌, ◌↔◌, Bool, true, false, cond, List, [], ◌∷◌, ◌++◌, map, eqb, ltb, length, get_or, Option, Some, None, Ok}
 use Rattle.unique_index_set_enums.specs.declared.UniqueIndexSetAcquireFailure.TheVariants.{OutOfIndices}
 use Rattle.unique_index_set_enums.specs.Limits.{lock_acquire}
 use Rattle.calls.specs.declared.Answer.TheVariants as answer
@@ -11,9 +11,7 @@ use Rattle.custody.specs.declared.Custody.TheVariants.{Free}
 use Rattle.custody.specs.Entry.{custody_of}
 use Rattle.plain_places.specs.declared.Place.{Place}
 use Rattle.plain_places.specs.declared.Place.TheVariants.{AcquireLook, AcquireRead, AcquireExchange, AcquireWrite, ReleaseLook, ReleaseWrite, ReleaseExchange, BorrowedLook, LockedLook}
-use Rattle.plain_places.specs.declared.Opened.{Opened}
-use Rattle.plain_places.specs.declared.Opened.TheVariants.{At, Damaged}
-use Rattle.plain_calls.specs.declared.resumes.Next.TheVariants.{Answered}
+use Rattle.std.specs.declared.ops.ControlFlow.TheVariants.{Break}
 use Rattle.unique_index_set.specs.Steps.{Shared, saw_at, next_at, opened_in, is_damaged}
 use Rattle.turns.specs.Docks.{Table}
 use Rattle.stack_order.specs.Stack.{acquire, Call, Stack, count, fresh_stack, replay, Answers}
@@ -30,9 +28,9 @@ abbrev pub free_chain : ℕ → Shared → List ℕ
 free_chain capacity s = walked (suc capacity) capacity s.slots (head_of s.set.head)
 
 -- where a record stands in its call: nowhere if it is idle; a dead one where its death met it
-abbrev pub opens_as : Opened → List Place
-opens_as (At p) = p ∷ []
-opens_as Damaged = []
+abbrev pub opens_as : Option Place → List Place
+opens_as (Some p) = p ∷ []
+opens_as None = []
 
 abbrev pub stands_at : Shared → Record → List Place
 stands_at s t = cond (eqb t.call.place 0) [] (opens_as (opened_in s t))
@@ -106,13 +104,13 @@ module _ (capacity : ℕ) (w : World) where
     pub once : (i : ℕ) → i < capacity → count i (free_chain capacity w.dock.shared) + count i custody ≡ 1
     pub nothing_else : (i : ℕ) → capacity ≤ i → count i (free_chain capacity w.dock.shared) + count i custody ≡ 0
     -- the custody buffer says the same of which are free
-    pub buffer : (i : ℕ) → i < capacity → (custody_of (get_or w.dock.shared.custody i 0) ≡ Free) ↔ (count i custody ≡ 0)
+    pub buffer : (i : ℕ) → i < capacity → (custody_of (get_or w.dock.shared.custody i 0) ≡ Ok Free) ↔ (count i custody ≡ 0)
     -- unless locked, the borrowed count is the number in custody; locked, nothing is in custody
     pub borrowed : (IsLockedNow → ⊥) → borrowed_of w.dock.shared.set.head ≡ length custody
     pub locked : IsLockedNow → custody ≡ []
     -- an acquire runs out exactly when nothing is free at its judging step: in the order, and now, at a look and at an exchange that fails
     pub runs_out : RunsOut (fresh_stack capacity) calls
-    pub judges : (next_at AcquireLook w.dock.shared ≡ Answered (answer.NotAcquired OutOfIndices)) ↔ (free_chain capacity w.dock.shared ≡ [])
+    pub judges : (next_at AcquireLook w.dock.shared ≡ Break (answer.NotAcquired OutOfIndices)) ↔ (free_chain capacity w.dock.shared ≡ [])
     pub judges_again : (seen value : ℕ) → (saw_at (AcquireExchange seen value) w.dock.shared).won ≡ false → next_at (AcquireExchange seen value) w.dock.shared ≡ next_at AcquireLook w.dock.shared
     -- no call answers 14, and no live record in a call is damaged, which is what 11 is given for
     pub none_spoiled : (r : ℕ) → NoneSpoiled (answered_by r w.history)

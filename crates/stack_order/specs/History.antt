@@ -1,5 +1,5 @@
 -- The history of a run: what each step looked at, whether its exchange won, which call it ordered and which it answered. The newest event stands first.
-use Rattle.std.specs.Prelude.{ℕ, suc, ◌-◌, ◌<◌, ◌≡◌, Bool, true, false, cond, not, ◌&&◌, List, [], ◌∷◌, ◌++◌, eqb}
+use Rattle.std.specs.Prelude.{ℕ, suc, ◌-◌, ◌<◌, ◌≡◌, Bool, true, false, cond, not, ◌&&◌, List, [], ◌∷◌, ◌++◌, eqb, Option, Some, None}
 use Rattle.unique_index_set_enums.specs.declared.RecordNumber.{RecordNumber}
 use Rattle.unique_index_set_enums.specs.Kinds.{index}
 use Rattle.calls.specs.declared.Answer.{Answer}
@@ -10,8 +10,8 @@ use Rattle.plain_places.specs.declared.Place.TheVariants.{AcquireLook, AcquireRe
 use Rattle.plain_calls.specs.declared.asks.Asked.{Asked}
 use Rattle.plain_calls.specs.declared.asks.Asked.TheVariants as asked
 use Rattle.plain_calls.specs.declared.resumes.Saw.{Saw}
-use Rattle.plain_calls.specs.declared.resumes.Next.{Next}
-use Rattle.plain_calls.specs.declared.resumes.Next.TheVariants.{Going, Answered}
+use Rattle.std.specs.declared.ops.ControlFlow.{ControlFlow}
+use Rattle.std.specs.declared.ops.ControlFlow.TheVariants.{Continue, Break}
 use Rattle.stack_order.specs.Stack.{Called, acquire, borrowed_indices, is_locked, release, Call, without}
 
 -- what an accepted start or step did. `looks`: it looked at the head word (an exchange that fails is a look); `exchanges`: it was an exchange; `wins`: it was an exchange
@@ -26,14 +26,14 @@ pub record Event : Type 0 where
   pub ends : List Call
 
 -- ---- a start
-abbrev pub called_by : Asked → List Called
-called_by asked.Acquire = acquire ∷ []
-called_by (asked.Release i m) = release i m ∷ []
-called_by asked.BorrowedIndices = borrowed_indices ∷ []
-called_by asked.IsLocked = is_locked ∷ []
-called_by asked.NotKnown = []
+abbrev pub called_by : Option Asked → List Called
+called_by (Some asked.Acquire) = acquire ∷ []
+called_by (Some (asked.Release i m)) = release i m ∷ []
+called_by (Some asked.BorrowedIndices) = borrowed_indices ∷ []
+called_by (Some asked.IsLocked) = is_locked ∷ []
+called_by None = []
 
-abbrev pub start_event : RecordNumber → Asked → Event
+abbrev pub start_event : RecordNumber → Option Asked → Event
 start_event who a = record { by = who; looks = false; exchanges = false; wins = false; starts = called_by a; orders = []; ends = [] }
 
 -- ---- a step, by its place, what its access showed, and how the call goes on
@@ -74,13 +74,13 @@ looks_at BorrowedLook saw = true
 looks_at LockedLook saw = true
 
 -- the call that a step answers
-abbrev pub ends_with : Called → Next → List Call
-ends_with c (Going p) = []
-ends_with c (Answered a) = record { called = c; answer = a } ∷ []
+abbrev pub ends_with : Called → ControlFlow Answer Place → List Call
+ends_with c (Continue p) = []
+ends_with c (Break a) = record { called = c; answer = a } ∷ []
 
 -- the call that it orders: an acquire that takes an index at its won exchange, before it writes its slot and answers; every other call at the look or the
 -- exchange that answers it
-abbrev pub orders_at : Place → Saw → Next → List Call
+abbrev pub orders_at : Place → Saw → ControlFlow Answer Place → List Call
 orders_at (AcquireExchange seen value) saw next = cond saw.won (record { called = acquire; answer = answer.Acquired (index (head_of seen)) } ∷ []) (ends_with acquire next)
 orders_at (AcquireWrite i) saw next = []
 orders_at AcquireLook saw next = ends_with acquire next
@@ -91,7 +91,7 @@ orders_at (ReleaseExchange i m seen) saw next = ends_with (release i m) next
 orders_at BorrowedLook saw next = ends_with borrowed_indices next
 orders_at LockedLook saw next = ends_with is_locked next
 
-abbrev pub step_event : RecordNumber → Place → Saw → Next → Event
+abbrev pub step_event : RecordNumber → Place → Saw → ControlFlow Answer Place → Event
 step_event who p saw next = record {
   by = who;
   looks = looks_at p saw;
