@@ -1,4 +1,7 @@
 //! Each of the two docks: a set, its buffers, and its table of records, of which the first are lent.
+ghost use Rattle.call_lines.specs.Numbers.{least_of};
+ghost use Rattle.dock_limits.specs.Lent.{PlainLentAs, RobustLentAs};
+
 use call_lines::{least, same_cells, same_entries};
 use call_reports::{tell_cells, tell_custody, tell_slots};
 use dock::{Work, do_work};
@@ -41,16 +44,26 @@ impl PlainSide {
         }
     }
 
-    pub(crate) fn work(&mut self, records: usize, work: Work) -> Done {
-        let mut side = *self;
+    // The work for as many of the records; the rest stay.
+    pub(crate) fn work(&mut self, records: usize, work: Work) -> Done
+        ensures { PlainLentAs (least_of records 17) work self.old result self.new }
+    {
+        let mut slots = self.slots;
+        let mut custody = self.custody;
+        let mut table = self.table;
         let mut dock = PlainDock {
-            set: side.set,
-            slots: &mut side.slots[..],
-            custody: &mut side.custody[..],
+            set: self.set,
+            slots: &mut slots[..],
+            custody: &mut custody[..],
         };
-        let done = do_work(&mut side.table[..least(records, 17)], &mut dock, work);
+        let done = do_work(&mut table[..least(records, 17)], &mut dock, work);
         let set = dock.set;
-        *self = PlainSide { set, ..side };
+        *self = PlainSide {
+            set,
+            slots,
+            custody,
+            table,
+        };
         done
     }
 
@@ -81,15 +94,19 @@ impl RobustSide {
         }
     }
 
-    pub(crate) fn work(&mut self, records: usize, work: Work) -> Done {
-        let mut side = *self;
+    // The work for as many of the records; the rest stay.
+    pub(crate) fn work(&mut self, records: usize, work: Work) -> Done
+        ensures { RobustLentAs (least_of records 17) work self.old result self.new }
+    {
+        let mut cells = self.cells;
+        let mut table = self.table;
         let mut dock = RobustDock {
-            set: side.set,
-            cells: &mut side.cells[..],
+            set: self.set,
+            cells: &mut cells[..],
         };
-        let done = do_work(&mut side.table[..least(records, 17)], &mut dock, work);
+        let done = do_work(&mut table[..least(records, 17)], &mut dock, work);
         let set = dock.set;
-        *self = RobustSide { set, ..side };
+        *self = RobustSide { set, cells, table };
         done
     }
 
