@@ -1,5 +1,5 @@
 -- A number spelled: its last digit, and before it those of what is left. Assumes nothing.
-use Rattle.std.proofs.Common.{ℕ, suc, ◌-◌, ◌≡◌, ◌+◌, ◌/◌, ◌%◌, ◌≤◌, ◌<◌, List, [], ◌∷◌, ◌++◌, length, refl, sym, ap, subst, ◌∙◌, arith, rules, decimal}
+use Rattle.std.proofs.Common.{ℕ, suc, ◌-◌, ◌≡◌, ◌+◌, ◌/◌, ◌%◌, ◌≤◌, ◌<◌, List, [], ◌∷◌, length, refl, sym, ap, subst, ◌∙◌, arith, rules, decimal}
 use Rattle.std.specs.Prelude.{◌^◌}
 use Rattle.std.specs.Str.{IsUtf8}
 use Rattle.std.proofs.lemmas.Fmt.{PrependsLastDigit, decimal_from_prepends, length-decimal-le, IsAscii-decimal}
@@ -89,7 +89,10 @@ module _ (v : ℕ) (digits : List ℕ) (first left : ℕ) (s : Spelled v digits 
 pub is_text : (v : ℕ) → v < 2 ^ 64 → IsUtf8 (decimal_of v)
 is_text v h = subst IsUtf8 (own_decimal v h) (IsUtf8-from_ascii (decimal v) (IsAscii-decimal v h))
 
-pub text_in : (v first : ℕ) (digits : List ℕ) → v < 2 ^ 64 → length digits ≡ 20 → drop first digits ≡ decimal_of v → IsUtf8 (take (20 - first) (drop first digits))
-text_in v first digits h l e =
+pub whole_text : (v first : ℕ) (digits : List ℕ) → length digits ≡ 20 → drop first digits ≡ decimal_of v → take (20 - first) (drop first digits) ≡ decimal_of v
+whole_text v first digits l e =
     let n : length (drop first digits) ≤ 20 - first = omega (arith, length-drop first digits, l) in
-    rw (take_all (20 - first) (drop first digits) n) (rw e (is_text v h))
+    take_all (20 - first) (drop first digits) n ∙ e
+
+pub text_in : (v first : ℕ) (digits : List ℕ) → v < 2 ^ 64 → length digits ≡ 20 → drop first digits ≡ decimal_of v → IsUtf8 (take (20 - first) (drop first digits))
+text_in v first digits h l e = rw (whole_text v first digits l e) (is_text v h)
